@@ -10,7 +10,7 @@ use Rattle.std.proofs.lemmas.List.{take_all, length-map, length-set, length-repl
 use Rattle.std.proofs.lemmas.List.Folds.{list_any_at}
 use Rattle.std.proofs.lemmas.List.Sums.{list_all-from_AllPass, fold_more}
 use Rattle.lsm_filter.specs.Probes.{fnv_hash, probe, turns, probes}
-use Rattle.lsm_filter.specs.Bits.{is_set, with_bit, with_key, filter_of, is_probed, is_perhaps}
+use Rattle.lsm_filter.specs.Bits.{is_set, with_bit, with_key, filter_of, is_probed, has_bits, is_perhaps}
 
 pub probe_below : (hash turn : ℕ) → probe hash turn < 32768
 unfolding probe
@@ -108,7 +108,7 @@ exact keys bit within =
 
 -- each key of the filter has all its bits set
 pub member : (keys : List (List ℕ)) (i : ℕ) → i < length keys → is_perhaps (filter_of keys) (get_or keys i []) ≡ true
-unfolding is_perhaps
+unfolding is_perhaps has_bits
 member keys i within =
     let key : List ℕ = get_or keys i [] in
     list_all-from_AllPass (is_set (filter_of keys)) (probes key)

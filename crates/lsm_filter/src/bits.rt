@@ -1,9 +1,9 @@
 //! Bits in a block of bytes.
 
 ghost use Rattle.std.specs.Prelude.{◌≡◌, ◌<◌, length};
-ghost use Rattle.lsm_filter.specs.Bits.{is_set, with_bit, with_key, is_perhaps};
+ghost use Rattle.lsm_filter.specs.Bits.{is_set, with_bit, with_key, has_bits};
 
-use crate::probes::{TURNS, hash_of, probe_of};
+use crate::probes::{KeyHash, TURNS, probe_of};
 
 fn is_bit_set(bits: &[u8], at: usize) -> bool
     requires block { length bits.now ≡ 4096 }
@@ -27,19 +27,18 @@ pub(crate) fn set_bits_of(bits: &mut [u8], key: &[u8])
     requires block { length bits.old ≡ 4096 }
     ensures { bits.new ≡ with_key bits.old key.now }
 {
-    let hash = hash_of(key);
+    let hash = KeyHash::of(key);
     for turn in TURNS {
         set_bit(bits, probe_of(hash, turn));
     }
 }
 
-/// Whether all bits of a key are set.
-#[tactic(auto, unfolding(crate::specs::Bits::is_perhaps))]
-pub(crate) fn has_bits_of(bits: &[u8], key: &[u8]) -> bool
+/// Whether all bits of a hash are set.
+#[tactic(auto, unfolding(crate::specs::Bits::has_bits))]
+pub(crate) fn has_bits_of(bits: &[u8], hash: KeyHash) -> bool
     requires block { length bits.now ≡ 4096 }
-    ensures { result ≡ is_perhaps bits.now key.now }
+    ensures { result ≡ has_bits bits.now hash }
 {
-    let hash = hash_of(key);
     for turn in TURNS {
         if !is_bit_set(bits, probe_of(hash, turn)) {
             return false;

@@ -1,9 +1,10 @@
 //! A filter of keys.
 
 ghost use Rattle.std.specs.Prelude.{◌≡◌, [], length, map, All, IfOk, true};
-ghost use Rattle.lsm_filter.specs.Bits.{is_perhaps, with_key, filter_of};
+ghost use Rattle.lsm_filter.specs.Bits.{is_perhaps, has_bits, with_key, filter_of};
 
 use crate::bits::{has_bits_of, set_bits_of};
+use crate::probes::KeyHash;
 use std::alloc::{AllocError, Allocator, Global};
 use std::marker::Model;
 
@@ -74,6 +75,13 @@ impl<A: Allocator> Filter<A> {
     pub fn perhaps(&self, key: &[u8]) -> bool
         ensures { result ≡ is_perhaps self.now key.now }
     {
-        has_bits_of(&self.bits, key)
+        self.perhaps_hashed(KeyHash::of(key))
+    }
+
+    /// What [`Filter::perhaps`] answers for the keys that have this hash. It takes no memory, and reads no key.
+    pub fn perhaps_hashed(&self, hash: KeyHash) -> bool
+        ensures { result ≡ has_bits self.now hash }
+    {
+        has_bits_of(&self.bits, hash)
     }
 }

@@ -8,3 +8,4 @@ pub mod laws;
 mod probes;
 
 pub use filter::{FILTER_BYTES, Filter};
+pub use probes::KeyHash;

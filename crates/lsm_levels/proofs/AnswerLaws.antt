@@ -14,7 +14,7 @@ use Rattle.lsm_codec.specs.Guards.{Condition, is_met}
 use Rattle.lsm_codec.specs.Keys.{Bytes}
 use Rattle.lsm_codec.specs.Versions.{Version, newest}
 use Rattle.lsm_mem.specs.Versions.{map_of}
-use Rattle.lsm_merge.specs.Inputs.{joined}
+use Rattle.lsm_mem.specs.Versions.{joined}
 use Rattle.lsm_cache.specs.declared.name.BlockName.{BlockName}
 use Rattle.lsm_cache.specs.Fresh.{IsFresh, IsNumberedBelow}
 use Rattle.lsm_levels.specs.Tables.{Table, IsRun}

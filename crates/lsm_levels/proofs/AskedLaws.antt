@@ -6,7 +6,8 @@ use Rattle.std.specs.Ordering.{is_gt}
 use Rattle.std.proofs.lemmas.Option.{same_Some}
 use Rattle.lsm_codec.specs.Keys.{Bytes, byte_order}
 use Rattle.lsm_codec.specs.Indexes.{Edge}
-use Rattle.lsm_filter.specs.Bits.{is_perhaps}
+use Rattle.lsm_filter.specs.Probes.{fnv_hash}
+use Rattle.lsm_filter.specs.Bits.{has_bits, is_perhaps}
 use Rattle.lsm_table.specs.Outlines.{Outline}
 use Rattle.lsm_table.specs.Places.{stands_before, place_from, place_of}
 use Rattle.lsm_levels.specs.Tables.{Table}
@@ -55,7 +56,7 @@ of_covering Q key (u ∷ rest) t all e = elim (covers key u) as (λ y. cond y (S
   | false ↦ λ e. of_covering Q key rest t all.1 e
 ] e
 
--- a block of a table within so many sectors
+-- a block of a table within the first `size` sectors
 pub block_within : (size area : ℕ) (key : Bytes) (n : ℕ) (run : List Table) (b : PlacedBlock) → AllByRecursion (LiesWithin size area) run → asked_of_run area key n run ≡ Some b → b.sector + 8 ≤ size
 block_within size area key n run b all e = of_run area key n (LiesWithin size area) (λ b. b.sector + 8 ≤ size) (λ t i w lt. omega (arith, w.ends, lt)) run b all e
 
@@ -67,6 +68,11 @@ within_more size more area (t ∷ rest) le all = (record { ends = omega (arith, 
 -- the block at a place in a table of this number, which begins there
 abbrev block_of : ℕ → ℕ → ℕ → ℕ → PlacedBlock
 block_of area place number start = record { name = record { table = number; block = place }; sector = area + 8 * (start + place) }
+
+-- a filter that is asked of a key by its hash
+pub asked_by_hash : (filter : List ℕ) (key : Bytes) (hash : ℕ) (answer : Bool) → hash ≡ fnv_hash key → answer ≡ has_bits filter hash → answer ≡ is_perhaps filter key
+unfolding is_perhaps
+asked_by_hash filter key hash answer hashed answered = answered ∙ ap (has_bits filter) hashed
 
 module _ (area : ℕ) (key : Bytes) (n : ℕ) (t : Table) (told : Outline) (perhaps : Bool) (same : told ≡ t.outline) (tested : perhaps ≡ is_perhaps told.filter key) where
   -- no block, where the filter says that the table lacks the key

@@ -14,7 +14,7 @@ pub hull_of_both : (xs ys : List Table) → hull_onto xs (hull_onto ys None) ≡
 hull_of_both [] ys = onto_none ys
 hull_of_both (t ∷ xs) ys = ap (λ (o : Option KeyRange). Some (spanned t o)) (hull_of_both xs ys)
 
--- with one table more behind them
+-- with one table more after them
 onto_last : (front : List Table) (t : Table) (rest : Option KeyRange) → hull_onto (front ++ t ∷ []) rest ≡ hull_onto front (Some (spanned t rest))
 onto_last [] t rest = refl
 onto_last (x ∷ front) t rest = ap (λ (o : Option KeyRange). Some (spanned x o)) (onto_last front t rest)
@@ -35,7 +35,7 @@ by_four P f (a ∷ b ∷ c ∷ d ∷ x ∷ rest) e = absurd (omega (arith, e))
 abbrev runs_below : (Table → Bool) → List (List Table) → ℕ → List (List Table) → Type 0
 runs_below p runs i deeper = list_any p (all_tables (drop (suc i) deeper)) ≡ list_any p (below_output (record { runs = runs; deeper = deeper }) i)
 
--- the runs below the outputs are those behind it
+-- the runs below the outputs are those after its own
 pub any_below : (p : Table → Bool) (levels : Levels) (i : ℕ) → length levels.deeper ≡ 4 → i < 3 → list_any p (all_tables (drop (suc i) levels.deeper)) ≡ list_any p (below_output levels i)
 any_below p levels zero four small = by_four (runs_below p levels.runs zero) (λ a b c d. ap (λ t. list_any p (b ++ (c ++ t))) (append-nil d)) levels.deeper four
 any_below p levels (suc zero) four small = by_four (runs_below p levels.runs (suc zero)) (λ a b c d. ap (λ t. list_any p (c ++ t)) (append-nil d)) levels.deeper four
@@ -53,7 +53,7 @@ none_below levels (suc (suc (suc i))) deep = refl
 pub any_in_runs : (p : Table → Bool) (run : List Table) (rest : List (List Table)) → list_any p (all_tables (run ∷ rest)) ≡ (list_any p run || list_any p (all_tables rest))
 any_in_runs p run rest = list_any-append p run (all_tables rest)
 
--- the flag, by what is met of the runs behind it
+-- the flag, by what is met of the runs after it
 pub none_met : (levels : Levels) (i : ℕ) (range : KeyRange) (inputs : Option KeyRange) (b : Bool) (deeper : List (List Table)) → inputs ≡ Some range → deeper ≡ levels.deeper → length deeper ≡ 4 → i < 3
     → b ≡ list_any (meets range) (all_tables (take (length deeper - (i + 1)) (drop (i + 1) deeper))) → not b ≡ meets_none inputs (below_output levels i)
 none_met levels i range inputs b deeper is same four small e =

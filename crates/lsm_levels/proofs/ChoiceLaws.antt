@@ -17,7 +17,7 @@ use Rattle.lsm_levels.proofs.Ranges.{no}
 use Rattle.lsm_levels.proofs.Runs.{run_at}
 use Rattle.lsm_levels.proofs.TablesMet.{met_own}
 
--- what a merge that may stand beside others says of these
+-- what follows where a merge may run along with others
 stands : (several are merges : Bool) → (not several && (not are || not merges)) ≡ true → (several ≡ false) × (are ≡ true → merges ≡ false)
 stands false true false e = (refl, λ f. refl)
 stands false false merges e = (refl, λ f. absurd (no (sym f)))
@@ -108,7 +108,7 @@ no_upper : (levels : Levels) (i : ℕ) → IsUpper levels i []
 no_upper levels zero = tt
 no_upper levels (suc i) = refl
 
--- beside no merge there is but a flush, and a rewrite is apart from that
+-- a job that is no merge is a flush, and a rewrite is apart from that
 rewrite_apart : (i : ℕ) (tables : List Table) (other : Job) → is_merge other ≡ false → AreApart (Merge i [] tables) other
 rewrite_apart i tables Flush e = record { tables = λ t u b c. absurd c; one_flush = λ mine theirs. absurd (no (sym mine)); alone = λ f. refl; others_alone = λ f. absurd (no (sym f)) }
 rewrite_apart i tables (Merge j upper lower) e = absurd (no e)

@@ -77,7 +77,7 @@ next_left area t rest n lt =
     let same : 0 + n ≡ n = omega arith in
     ap (λ (bs : List PlacedBlock). bs ++ blocks_of area rest) (dropped_at area t 0 n t.outline.edges lt) ∙ ap (λ (k : ℕ). placed_block area t k ∷ blocks_left area (n + 1) (t ∷ rest)) same
 
--- behind the last block of a table come those of the next tables
+-- after the last block of a table come those of the next tables
 pub table_passed : (area : ℕ) (t : Table) (rest : List Table) (n : ℕ) → length t.outline.edges ≤ n → blocks_left area n (t ∷ rest) ≡ blocks_left area 0 rest
 table_passed area t rest n le = ap (λ (bs : List PlacedBlock). bs ++ blocks_of area rest) (none_at area t 0 n t.outline.edges le) ∙ sym (all_left_over area rest)
 
@@ -116,7 +116,7 @@ filter_passes p (x ∷ xs) = by (filter_passes p xs) (p x) refl
     by more true e = (e, more)
     by more false e = more
 
--- the blocks of tables that lie within so many sectors do
+-- the blocks of tables that lie within the first `size` sectors do too
 pub lying_blocks : (size area : ℕ) (run : List Table) → AllByRecursion (LiesWithin size area) run → AllByRecursion (EndsWithin size) (blocks_of area run)
 lying_blocks size area run all = all_blocks (LiesWithin size area) (EndsWithin size) area (λ t i lies lt. omega (arith, lies.ends, lt)) run all
 

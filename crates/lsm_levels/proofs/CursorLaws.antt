@@ -174,7 +174,7 @@ module _ (place : BlockName → Option ℕ) (sectors : List (List ℕ)) where
   abbrev pub Reached : List Version → Cursor → Option Refusal → Source → Type 0
   Reached versions c refusal new = ((refusal ≡ None) × IsLeft sectors versions c × Shows place sectors new) ⊎ (refusal ≡ Some Io)
 
-  -- a block is entered of which, with those behind it, just these versions are picked
+  -- a block is entered from which, with those after it, just these versions are picked
   pub enters_left : (pick : Items → Items) (b : PlacedBlock) (rest : List PlacedBlock) (c : Cursor) (refusal : Option Refusal) (versions : List Version) (old new : Source) → IsPlacedAt place b → Shows place sectors old
       → has_item (pick (its_items b)) ≡ true → pick (its_items b) ++ flat_map its_items rest ≡ oks versions → Enters pick b rest c refusal old new → Reached versions c refusal new
   enters_left pick b rest c refusal versions old new at st some e (inl g) =
@@ -184,7 +184,7 @@ module _ (place : BlockName → Option ℕ) (sectors : List (List ℕ)) where
       inl (p.0, p.1, given_shows place sectors b g.0 old new at st g.1)
   enters_left pick b rest c refusal versions old new at st some e (inr d) = inr d.0
 
-  -- what is left behind the present version
+  -- what is left after the present version
   behind : (items others : Items) (versions : List Version) → has_item items ≡ true → items ++ others ≡ oks versions → drop 1 items ++ others ≡ oks (drop 1 versions)
   behind [] others versions some e = absurd cc
   behind (item ∷ items) others [] some e = absurd cc

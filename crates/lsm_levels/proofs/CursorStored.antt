@@ -29,7 +29,7 @@ use Rattle.lsm_levels.proofs.KeyOrder.{at_most_trans, at_most_itself, at_most_tu
 use Rattle.lsm_codec.proofs.Lists.{filter_step, filter_none, filter_all, all_map, all_right, all_append}
 use Rattle.lsm_levels.proofs.Searching.{run_ranges}
 use Rattle.lsm_levels.proofs.StoredLaws.{block_entries}
-use Rattle.lsm_merge.proofs.RangeLaws.{then_le}
+use Rattle.lsm_mem.proofs.FirstLaws.{then_le}
 
 abbrev oks : List Version → Items
 oks versions = map (λ v. Ok v) versions
@@ -43,7 +43,7 @@ oks_append (v ∷ xs) ys = ap (λ (t : Items). Ok v ∷ t) (oks_append xs ys)
 keys_ascend : (v w : Version) → entry_order v w ≡ Less → at_most v.key w.key ≡ true
 keys_ascend v w e = then_le (byte_order v.key w.key) (nat_cmp w.number v.number) e
 
--- the versions behind one in order have no lesser key
+-- the versions after one in order have no lesser key
 pub keys_behind : (v : Version) (vs : List Version) → AreOrdered (v ∷ vs) → AllByRecursion (λ w. at_most v.key w.key ≡ true) vs
 keys_behind v vs ordered = all_map (λ w e. keys_ascend v w e) vs (befores v vs ordered)
 
@@ -265,7 +265,7 @@ module _ (sectors : List (List ℕ)) where
       all_from : (key : Bytes) → at_most key t.first ≡ true → from_key key t.versions ≡ t.versions
       all_from key h = filter_all (λ v. at_most key v.key) t.versions (all_map (λ v le. at_most_trans key t.first v.key h le) t.versions from_first)
 
-    -- tables behind a key
+    -- tables after a key
     all_from_run : (key : Bytes) (run : List Table) → AllByRecursion (IsStored sectors area) run → AllByRecursion (λ u. at_most key u.first ≡ true) run → from_key key (versions_of run) ≡ versions_of run
     all_from_run key [] all from = refl
     all_from_run key (t ∷ rest) all from =

@@ -12,7 +12,7 @@ use Rattle.lsm_codec.specs.Keys.{Bytes}
 use Rattle.lsm_codec.specs.Versions.{Version, newest}
 use Rattle.lsm_mem.specs.Versions.{map_of}
 use Rattle.lsm_mem.proofs.Maps.{value-from_newest}
-use Rattle.lsm_merge.specs.Inputs.{joined}
+use Rattle.lsm_mem.specs.Versions.{joined}
 use Rattle.lsm_cache.specs.declared.name.BlockName.{BlockName}
 use Rattle.lsm_levels.specs.Tables.{Table, IsRun, versions_of}
 use Rattle.lsm_levels.specs.Orders.{IsVersionOrder}

@@ -94,7 +94,7 @@ hull_order tables w e order =
     let ends = hull_ends tables w e in
     subst (λ k. at_most k w.last ≡ true) ends.first (at_most_trans ends.a.first ends.a.last w.last (order ends.a ends.a_in) (hull_covers tables w e ends.a ends.a_in).1)
 
--- ---- a range beside the upper tables and each lower one
+-- ---- a range apart from the upper tables and each lower one
 
 module _ (upper lower : List Table) (r q : KeyRange) (is : hull upper ≡ Some r) (meet : (l : Table) → IsAmong l lower → meets r l ≡ true)
     (order : at_most q.first q.last ≡ true) (apart : (l : Table) → IsAmong l lower → meets q l ≡ false) where
@@ -110,14 +110,14 @@ module _ (upper lower : List Table) (r q : KeyRange) (is : hull upper ≡ Some r
       (λ low. right_of q r order x (meet x low) (apart x low) h)
       (among_either x upper lower a)
 
-  -- is beside their outputs
+  -- is apart from their outputs
   pub beside_output : (is_below q.last r.first ≡ true) ⊎ (is_below r.last q.first ≡ true) → (n : Table) → IsWithin (upper ++ lower) n → meets q n ≡ false
   beside_output side n w = ⊎_elim
       (λ h. apart_right q n (within_left q (upper ++ lower) n w (all_right h)))
       (λ h. apart_left q n (within_right q (upper ++ lower) n w (all_left h)))
       side
 
-  -- and beside their hull
+  -- and from their hull
   pub beside_hull : (is_below q.last r.first ≡ true) ⊎ (is_below r.last q.first ≡ true) → (w : KeyRange) → hull (upper ++ lower) ≡ Some w → (is_below q.last w.first ≡ true) ⊎ (is_below w.last q.first ≡ true)
   beside_hull side w e =
       let ends = hull_ends (upper ++ lower) w e in

@@ -6,7 +6,7 @@ use Rattle.std.specs.declared.cmp.Ordering.TheVariants.{Less, Equal, Greater}
 use Rattle.std.specs.Ordering.{is_lt, is_le, is_gt, ordering_reverse}
 use Rattle.lsm_codec.specs.Keys.{Bytes, byte_order}
 use Rattle.lsm_levels.specs.Tables.{at_most, is_below}
-use Rattle.lsm_merge.proofs.PartLaws.{lt_is_le}
+use Rattle.lsm_mem.proofs.FirstLaws.{lt_is_le}
 
 le_gt : (r : Ordering) → is_le r ≡ not (is_gt r)
 le_gt Less = refl

@@ -3,7 +3,7 @@ use Rattle.std.proofs.Common.{◌≡◌, ◌⊎◌, inl, inr, ⊎_elim, ℕ, zer
 use Rattle.std.specs.List.{AllByRecursion}
 use Rattle.lsm_codec.specs.Keys.{Bytes}
 use Rattle.lsm_codec.specs.Versions.{Version}
-use Rattle.lsm_merge.specs.Inputs.{joined}
+use Rattle.lsm_mem.specs.Versions.{joined}
 use Rattle.lsm_levels.specs.Among.{IsAmong}
 use Rattle.lsm_levels.proofs.Members.{among_left, among_right, among_either}
 use Rattle.lsm_levels.specs.Tables.{Table, KeyRange, at_most, meets, versions_of}

@@ -85,7 +85,7 @@ fair_faultless (Err e) h = ap (λ (x : Refusal). faultless (refused x)) h
 
 -- ---- how calls are counted
 
--- So many runs were asked: at most eight reads for each, a fault just where Io is found, and then in the last call.
+-- `count` runs were asked: at most eight reads for each, a fault just where Io is found, and then in the last call.
 pub record IsCounted (count : ℕ) (found : Outcome) (old new : Calls) : Type 0 where
   pub at_most : AtMost (8 * count) 0 0 old new
   pub faults : new.faults ≡ faults_after (faultless found) old.faults

@@ -81,7 +81,7 @@ module _ (p : Table → Bool) where
     abbrev met : List Table → List Table
     met xs = filter (meets r) xs
 
-    -- a table lies before the range, meets it or lies behind it
+    -- a table lies before the range, meets it or lies after it
     abbrev Parted : List Table → Type 0
     Parted xs = count (before xs) + count (met xs) + count (behind xs) ≡ count xs
 

@@ -7,7 +7,7 @@ use Rattle.lsm_codec.specs.Keys.{Bytes}
 use Rattle.lsm_codec.specs.Versions.{Version, is_same_key, newer_of, newest}
 use Rattle.lsm_codec.proofs.KeyOrder.{same_key}
 use Rattle.lsm_codec.proofs.Lists.{all_append}
-use Rattle.lsm_merge.specs.Inputs.{joined}
+use Rattle.lsm_mem.specs.Versions.{joined}
 use Rattle.lsm_levels.specs.Orders.{IsNewerPlace, IsVersionOrder}
 
 -- what is said of a version that may be there

@@ -94,7 +94,7 @@ with_last (x ∷ left) run n lt =
     ap length (tables_append (x ∷ left) (run ∷ [])) ∙ ap (λ (ts : List Table). length (all_tables (x ∷ left) ++ ts)) (append-nil run) ∙ length-append (all_tables (x ∷ left)) run in
     ap (λ b. cond b [] (x ∷ newer_runs n (left ++ run ∷ []))) (lt-leb whole n (omega (arith, adds, lt))) ∙ ap (λ (rs : List (List Table)). x ∷ rs) (with_last left run n lt)
 
--- a search from the oldest run on: of these runs, left so far, those before so many tables are looked for
+-- a search from the oldest run on for the runs newer than the last `wanted` tables: `tables` of these and the runs `left` are still to do
 pub record IsKept (left runs : List (List Table)) (kept tables wanted : ℕ) : Type 0 where
   pub number : kept ≡ length left
   pub first : take kept runs ≡ left
@@ -105,7 +105,7 @@ module _ (left more runs : List (List Table)) (run : List Table) (kept tables wa
   pub kept_here : tables < length run → take kept runs ≡ newer_runs wanted runs
   kept_here lt = k.first ∙ parts ∙ sym (with_last left run tables lt) ∙ ap (newer_runs tables) (sym parts) ∙ k.same
 
-  -- and goes on behind each other
+  -- and goes on after any other
   pub kept_before : (rest : ℕ) → length run ≤ tables → rest ≡ tables - length run → IsKept left runs (kept - 1) rest wanted
   kept_before rest le is = record {
     number = number;
@@ -155,7 +155,7 @@ newer_or_oldest runs tables some o t a = ⊎_elim
     (λ b. inr (subst (IsAmong t) (sym o.all) b))
     (among_either t (all_tables o.newer) (all_tables o.oldest) (subst (IsAmong t) (ap all_tables o.split ∙ tables_append o.newer o.oldest) a))
 
--- so many of the oldest runs
+-- the `count` oldest runs
 pub oldest_are : (count : ℕ) (runs : List (List Table)) → 1 ≤ count → count ≤ length runs → AreOldest runs (all_tables (oldest_runs count runs))
 oldest_are count runs some there = record {
   newer = take (length runs - count) runs;

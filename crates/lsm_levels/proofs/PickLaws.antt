@@ -257,7 +257,7 @@ pub oldest_upper : (levels : Levels) (upper : List Table) → AreOldest levels.r
 oldest_upper levels [] o = tt
 oldest_upper levels (t ∷ rest) o = o
 
--- beside which other merges may stand
+-- with which other merges may run
 pub not_several : (upper : List Table) → 0 < length upper → are_several 0 upper ≡ true → ⊥
 not_several [] some e = omega (arith, some)
 not_several (t ∷ rest) some e =

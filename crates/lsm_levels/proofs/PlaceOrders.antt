@@ -20,7 +20,7 @@ AreNewer ts us = (t u : Table) (v w : Version) → IsAmong t ts → IsAmong u us
 newer_tables : (ts us : List Table) → AreNewer ts us → IsNewerPlace (versions_of ts) (versions_of us)
 newer_tables ts us f = newer_from (versions_of ts) (versions_of us) (λ v w a b same. let t = in_tables v ts a in let u = in_tables w us b in f t.0 u.0 v w t.1 u.1 t.2 u.2 same)
 
--- runs of which each is newer than those behind it
+-- runs of which each is newer than those after it
 pub order_from : (xs : List (List Table)) → ((k l : ℕ) → k < l → AreNewer (get_or xs k []) (get_or xs l [])) → IsVersionOrder (map versions_of xs)
 order_from [] f = tt
 order_from (x ∷ xs) f = (behind xs (λ l. f 0 (suc l) (omega arith)), order_from xs (λ k l lt. f (suc k) (suc l) (omega (arith, lt))))

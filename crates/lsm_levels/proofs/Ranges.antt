@@ -65,7 +65,7 @@ other_apart run r t u a b other = ⊎_elim
     (λ apart. ⊎_elim (λ h. apart_right (range_of t) u h) (λ h. apart_left (range_of t) u h) apart)
     (in_run run r t u a b)
 
--- ---- a range beside another, and beside tables that meet that
+-- ---- a range apart from another, and from tables that meet the other
 
 module _ (q r : KeyRange) (order : at_most q.first q.last ≡ true) (l : Table) (meet : meets r l ≡ true) (apart : meets q l ≡ false) where
   pub left_of : is_below q.last r.first ≡ true → is_below q.last l.first ≡ true

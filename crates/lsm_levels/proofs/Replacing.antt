@@ -125,7 +125,7 @@ module _ (r : KeyRange) (n : ℕ) (new : List Table) (levels : Levels) (four : l
       (same_or_not m (suc i)))
       (same_or_not m i)
 
--- ---- a merge of so many upper tables
+-- ---- a merge of n upper tables
 
 pub after_cases : (r : KeyRange) (n : ℕ) (new : List Table) (levels : Levels) → length levels.deeper ≡ 4 → (j : ℕ) → j ≤ 3 → (k : ℕ) (t : Table) → IsAmong t (level (replaced j r n new levels) k)
     → IsAmong t (level levels k) ⊎ ((k ≡ suc j) × IsAmong t new)

@@ -43,7 +43,7 @@ module _ (levels : Levels) (runs : AreRuns levels) (flag : Bool) (i : ℕ) (lowe
       low e at true met = inl (h.all t at met)
       low e at false apart = inr (subst (λ n. IsAmong t (level after n)) (sym e) (subst (IsAmong t) (sym at_output) (put_stays h.range new (level levels (suc i)) t at apart)))
 
-  -- a table that stands was there, beside the inputs, or is an output
+  -- a table after the merge was there before, apart from the inputs, or is an output
   record Stood (k : ℕ) (t : Table) : Type 0 where
     pub old : IsAmong t (level levels k)
     pub apart : k ≡ suc i → meets h.range t ≡ false
@@ -76,7 +76,7 @@ module _ (levels : Levels) (runs : AreRuns levels) (flag : Bool) (i : ℕ) (lowe
       (λ n. inr (of_table v a.table new n.1 a.has))
       (stood a.place a.table a.there)
 
-  -- nothing that stays beside an input is of its key and older, at the bottom
+  -- no other table that stays has an older version of an input's key, at the bottom
   module _ (order : IsVersionOrder (map versions_of (places levels))) (ranged : (k : ℕ) (t : Table) → IsAmong t (level levels k) → IsRanged t) (bottom : flag ≡ true) (whole : KeyRange) (whole_is : hull lower ≡ Some whole)
       (t u : Table) (v w : Version) (v_in : IsAmong v t.versions) (w_in : IsAmong w u.versions) (same : w.key ≡ v.key) (older : w.number < v.number) (k : ℕ) (at : Stood k u) where
     none_older : IsAmong t lower → ⊥

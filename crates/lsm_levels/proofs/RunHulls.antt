@@ -39,7 +39,7 @@ pub run_hull_some : (run : List Table) → None ≡ hull run → 0 < length run 
 run_hull_some [] e h = omega arith
 run_hull_some (t ∷ rest) e h = cc
 
--- ---- with a range behind it
+-- ---- with a range after it
 
 least_over : (a b c : Bytes) → at_most a b ≡ true → least a (least b c) ≡ least a c
 least_over a b c le = by (at_most b c) refl

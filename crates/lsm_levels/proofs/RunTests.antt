@@ -55,7 +55,7 @@ run_fails t rest b e h = by (at_most t.first t.last) (is_before_first t rest) (s
     by true false k = refl
     by false y k = refl
 
--- what stands behind a place, as a slice
+-- the rest after an index, as a slice
 pub all_behind : {X : Type 0} (xs : List X) (i : ℕ) → take (length xs - (i + 1)) (drop (i + 1) xs) ≡ drop (suc i) xs
 all_behind xs i =
     let next : i + 1 ≡ suc i = omega arith in
@@ -69,7 +69,7 @@ module _ (tables : List Table) (i : ℕ) (so_far : is_run (drop i tables) ≡ is
       let same : b ≡ (at_most t.first t.last && is_before_first t (drop (suc i) tables)) = e ∙ ap (λ ts. at_most t.first t.last && is_before_first t ts) (all_behind tables i) in
       no (sym (tested_run tables r) ∙ sym so_far ∙ ap is_run parts ∙ run_fails t (drop (suc i) tables) b same h)
 
-  -- behind the last one
+  -- after the last one
   pub run_ended : length tables ≤ i → IsRun tables
   run_ended le = run_tested tables (sym so_far ∙ ap is_run (none tables i le))
     where

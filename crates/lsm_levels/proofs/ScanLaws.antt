@@ -9,7 +9,7 @@ use Rattle.lsm_codec.specs.Entries.{entries_in}
 use Rattle.lsm_cache.specs.declared.name.BlockName.{BlockName}
 use Rattle.lsm_mem.specs.Paging.{Page}
 use Rattle.lsm_mem.specs.Gathering.{Gathering, page_with}
-use Rattle.lsm_merge.specs.Inputs.{joined}
+use Rattle.lsm_mem.specs.Versions.{joined}
 use Rattle.lsm_levels.specs.Asking.{Source}
 use Rattle.lsm_table.specs.Items.{first_version}
 use Rattle.lsm_levels.specs.Cursors.{Items, Cursor, GoesOn, Gives, present}

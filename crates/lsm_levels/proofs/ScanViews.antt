@@ -16,7 +16,7 @@ use Rattle.lsm_mem.specs.Versions.{map_of}
 use Rattle.lsm_mem.specs.Ranges.{from_key, newest_each}
 use Rattle.lsm_mem.specs.Paging.{Page, page_of}
 use Rattle.lsm_mem.specs.Gathering.{Gathering, gathering, page_so_far, page_with}
-use Rattle.lsm_merge.specs.Inputs.{joined}
+use Rattle.lsm_mem.specs.Versions.{joined}
 use Rattle.lsm_levels.specs.Tables.{Table, IsRun, at_most, versions_of}
 use Rattle.lsm_levels.specs.Asking.{Source, IsGiven, IsDenied}
 use Rattle.lsm_levels.specs.Levels.{Levels, places}

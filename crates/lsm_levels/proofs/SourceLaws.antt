@@ -22,15 +22,15 @@ use Rattle.lsm_mem.specs.Paging.{is_before, first_page, pairs_in, page_of}
 use Rattle.lsm_mem.specs.Gathering.{gathering, pairs_to_come, page_with, IsFirst}
 use Rattle.lsm_mem.proofs.GatheringLaws.{behind_cases, below_other, come_sorted, come_find, same_pairs}
 use Rattle.lsm_mem.proofs.Maps.{get-map_of}
-use Rattle.lsm_merge.specs.Inputs.{joined}
-use Rattle.lsm_merge.proofs.MapLaws.{first-filter, first_key}
-use Rattle.lsm_merge.proofs.NewestLaws.{newest-first}
-use Rattle.lsm_merge.proofs.OrderTests.{tested, ordered_tested}
-use Rattle.lsm_merge.proofs.RangeLaws.{is_in_order-filter, newest-filter}
+use Rattle.lsm_mem.specs.Versions.{joined}
+use Rattle.lsm_mem.proofs.FirstLaws.{first-filter, first_key}
+use Rattle.lsm_mem.proofs.FirstLaws.{newest-first}
+use Rattle.lsm_mem.proofs.OrderTests.{tested, ordered_tested}
+use Rattle.lsm_mem.proofs.FirstLaws.{is_in_order-filter, newest-filter}
 use Rattle.lsm_levels.specs.Orders.{IsNewerPlace, IsVersionOrder}
 use Rattle.lsm_levels.specs.Sources.{IsLeftOf, AreLeftOf, AreInOrder, heads_of, head_at, is_sooner, comes_before, IsNext, Splits}
 use Rattle.lsm_levels.proofs.NewestOf.{newest_place}
-use Rattle.lsm_merge.proofs.Sameness.{unsome}
+use Rattle.lsm_mem.proofs.FirstLaws.{unsome}
 
 no : true ≡ false → ⊥
 no e = cc
@@ -38,7 +38,7 @@ no e = cc
 none_some : {X : Type 0} (a : X) → None ≡ Some a → ⊥
 none_some a e = cc
 
--- ---- what comes behind a version
+-- ---- what comes after a version
 
 key_less : (v x : Version) → byte_order v.key x.key ≡ Less → entry_order v x ≡ Less
 key_less v x e = ap (λ (o : Ordering). ordering_then o (nat_cmp x.number v.number)) e
@@ -48,7 +48,7 @@ tied_older v x e lt =
     ap (λ (o : Ordering). ordering_then o (nat_cmp x.number v.number)) (is_eq_Equal (byte_order v.key x.key) (subst (λ (k : Bytes). is_same_key v.key k ≡ true) e (key_itself v.key)))
     ∙ sym (nat_cmp_is x.number v.number Less lt)
 
--- what is of the first version's key or behind it, and older where it is of the key
+-- what is of the first version's key or after it, and older where it is of the same key
 later_one : (v w x : Version) → v.key ≡ w.key → entry_order w x ≡ Less → (v.key ≡ x.key → x.number < v.number) → entry_order v x ≡ Less
 later_one v w x e k n =
     ⊎_elim (λ (l : byte_order w.key x.key ≡ Less). key_less v x (subst (λ (key : Bytes). byte_order key x.key ≡ Less) (sym e) l))

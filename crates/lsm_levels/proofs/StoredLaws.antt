@@ -25,8 +25,8 @@ use Rattle.lsm_table.proofs.Orders.{later_pairs, front_pairs}
 use Rattle.lsm_table.proofs.Places.{finds_by}
 use Rattle.lsm_table.proofs.Rising.{edges_rise}
 use Rattle.lsm_table.proofs.Searching.{parted, less_by_first}
-use Rattle.lsm_merge.proofs.NewestLaws.{first_at, newest-first}
-use Rattle.lsm_merge.proofs.OrderTests.{tested}
+use Rattle.lsm_mem.proofs.FirstLaws.{first_at, newest-first}
+use Rattle.lsm_mem.proofs.OrderTests.{tested}
 use Rattle.lsm_cache.specs.Reads.{block_at}
 use Rattle.lsm_levels.specs.Tables.{Table, at_most, is_below, versions_of, IsRun}
 use Rattle.lsm_levels.specs.Asking.{covers, covering, said, said_in, sector_of, placed_block, asked_of_table, asked_of_run}

@@ -49,7 +49,7 @@ to_single levels (suc i) (t ∷ v ∷ rest) r is few u = absurd (no (sym (either
     either true b e = refl
     either false b e = e
 
--- a merge beside which another may stand has upper tables
+-- a merge with which another may run has upper tables
 has_upper : (i : ℕ) (upper lower : List Table) (r : KeyRange) → are_several i upper ≡ false → reach upper lower ≡ Some r → hull upper ≡ Some r
 has_upper i [] lower r few is = absurd (no few)
 has_upper i (t ∷ rest) lower r few is = is
@@ -173,13 +173,13 @@ module _ (levels : Levels) (runs : AreRuns levels) (bottom flag : Bool) (i j : �
         zero_or_more (suc n) = inr (omega arith)
     uppers_after (suc n) e u = (u.0, u.1, stays (suc n) u.0 (among_left u.0 upper lower (in_one u.0 upper u.1)) u.2 new (λ f g. omega (arith, f)))
 
-    -- an output lies beside a range that lies beside the other's inputs
+    -- an output lies apart from a range that lies apart from the other's inputs
     outputs_beside : (q : KeyRange) → at_most q.first q.last ≡ true → (is_below q.last c.range.first ≡ true) ⊎ (is_below c.range.last q.first ≡ true) → ((l : Table) → IsAmong l other_lower → meets q l ≡ false)
         → (n : Table) → IsAmong n new → meets q n ≡ false
     outputs_beside q order side lone n a =
         beside_output other_upper other_lower c.range q theirs_hull c.meet order lone side n (of_all (IsWithin (other_upper ++ other_lower)) new within n a)
 
-    -- an output in my output level: my upper table lies in the other's upper level, beside its own
+    -- an output in my output level: my upper table lies in the other's upper level, next to its own
     beside_mine : i ≡ j → (n : Table) → IsAmong n new → meets h.range n ≡ false
     beside_mine e n a =
         let deep : 1 ≤ j = nonzero j (λ f. not_both (e ∙ f) f) in

@@ -19,7 +19,7 @@ run_left zero run r = r
 run_left (suc n) [] r = tt
 run_left (suc n) (t ∷ rest) r = run_left n rest r.2
 
--- the tables behind one begin behind its end
+-- the tables after one begin after its end
 behind : (t : Table) (rest : List Table) → IsRun (t ∷ rest) → AllByRecursion (λ u. at_most t.last u.first ≡ true) rest
 behind t rest r = all_map (λ u h. below_at_most t.last u.first h) rest r.1
 
@@ -30,7 +30,7 @@ ends_behind t rest r = by rest (behind t rest r) (run_ranges rest r.2)
     by [] h k = tt
     by (u ∷ us) h k = (at_most_trans t.last u.first u.last h.0 k.0, by us h.1 k.1)
 
--- ---- tables that end on a key or behind it
+-- ---- tables that end on a key or after it
 
 abbrev ends_on : Bytes → Table → Bool
 ends_on key t = at_most key t.last
@@ -50,7 +50,7 @@ all_left key run i t r lt is not_ended same =
     let whole : filter (ends_on key) (t ∷ drop (i + 1) run) ≡ t ∷ drop (i + 1) run = filter_all (ends_on key) (t ∷ drop (i + 1) run) (at, all_map (λ u h. at_most_trans key t.last u.last at h) (drop (i + 1) run) (ends_behind t (drop (i + 1) run) left)) in
     take_all (length run - i) (drop i run) (omega (arith, length-drop i run)) ∙ here ∙ sym whole ∙ ap (filter (ends_on key)) (sym here) ∙ same
 
--- what is left of a run behind a table's first key
+-- what is left of a run after a table's first key
 module _ (t : Table) (key : Bytes) (rest next : List Table) (first : key ≡ t.first) (left : next ≡ filter (ends_on key) rest) where
   pub left_of_first : next ≡ filter (ends_on t.first) rest
   left_of_first = left ∙ ap (λ (k : Bytes). filter (ends_on k) rest) first
@@ -78,7 +78,7 @@ none_left_begun key run i t r lt is not_begun same =
 
 -- ---- the tables that a table meets
 
--- of tables that end on its first key or behind it, those that begin by its last one
+-- of tables that end on its first key or after it, those that begin by its last one
 pub meets_begun : (t : Table) (rest : List Table) → AllByRecursion (λ u. at_most t.first u.last ≡ true) rest → filter (meets (range_of t)) rest ≡ filter (begins_by t.last) rest
 meets_begun t [] h = refl
 meets_begun t (u ∷ rest) h = by (meets_begun t rest h.1) (at_most t.first u.last) h.0
@@ -95,7 +95,7 @@ may_merge jobs t rest found number last held free n h none l behind m e =
     let met : found ≡ filter (meets (range_of t)) rest = m ∙ ap (λ (k : Bytes). filter (begins_by k) rest) l ∙ sym (meets_begun t rest behind) in
     e ∙ ap (list_all (is_free jobs)) met ∙ sym (ap (λ (b : Bool). (not b && true) && list_all (is_free jobs) (filter (meets (range_of t)) rest)) input)
 
--- those that end before a key are met by no table that begins at it or behind
+-- those that end before a key are met by no table that begins at it or after
 pub meets_left : (key : Bytes) (u : Table) (rest : List Table) → at_most key u.first ≡ true → filter (meets (range_of u)) (filter (ends_on key) rest) ≡ filter (meets (range_of u)) rest
 meets_left key u rest h = filter_twice (ends_on key) (meets (range_of u)) rest ∙ by rest
   where

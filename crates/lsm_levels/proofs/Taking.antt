@@ -178,7 +178,7 @@ module _ (levels : Levels) (runs : AreRuns levels) (flag : Bool) (i : ℕ) (firs
         let c = hull_covers (upper ++ lower) whole whole_is t a in
         no (sym (meets_by whole c.0 c.1 r) ∙ h.lowest bottom k u whole deep at.old whole_is)
 
-    -- beside an upper table
+    -- next to an upper table
     upper_case : (n : ℕ) → n ≡ i → IsUpper levels n upper → IsAmong t upper → ⊥
     upper_case zero e q a =
         let there : IsAmong t (level levels 0) = upper_there levels 0 upper q t a in
@@ -202,7 +202,7 @@ module _ (levels : Levels) (runs : AreRuns levels) (flag : Bool) (i : ℕ) (firs
             (λ (other : k ≢ suc n). no (sym (meets_by h.range c.0 c.1 (ranged (suc n) t there)) ∙ at.lower_apart (let g : k ≡ suc i = omega (arith, e, ge, le, other) in g)))
             (same_or_not k (suc n))
 
-    -- beside a lower one
+    -- next to a lower one
     lower_case : IsAmong t lower → ⊥
     lower_case a = by (h.lowers t a) (cases_lt k (suc i)) (cases_lt (suc i) k)
       where

@@ -51,7 +51,7 @@ said key n (Err refusal ∷ rest) = Err refusal
 abbrev pub said_in : Bytes → ℕ → List ℕ → Result (Option Version) Refusal
 said_in key n bytes = said key n (entries_in bytes)
 
--- a cache, and the device behind it
+-- a cache, and the device that it reads
 pub record Source : Type 0 where
   pub cache : Cached
   pub medium : Medium

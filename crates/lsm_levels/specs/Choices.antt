@@ -1,4 +1,4 @@
--- Which job a caller may choose, beside the one that comes next.
+-- Which jobs a caller may choose other than the next one.
 use Rattle.std.specs.Prelude.{ℕ, suc, ◌==◌, ◌&&◌, ◌||◌, not, nat_le, Bool, List, [], length, filter, Option, Some, None, if◌then◌else◌}
 use Rattle.std.specs.List.{find, list_any}
 use Rattle.lsm_levels.specs.Tables.{Table, meets}
@@ -7,19 +7,19 @@ use Rattle.lsm_levels.specs.Pick.{Job, Merge, is_merge, is_of_level_0, is_severa
 use Rattle.lsm_levels.specs.declared.choosing.Choice.{Choice}
 use Rattle.lsm_levels.specs.declared.choosing.Choice.TheVariants as choice
 
--- whether a merge of these tables of a level may stand beside others: where one of them is of several tables or a rewrite, none may
+-- whether a merge of these tables of a level may run along with other merges: not if either is a rewrite or takes several tables
 abbrev pub may_stand : List Job → ℕ → List Table → Bool
 may_stand jobs i upper = not (list_any is_several jobs) && (not (are_several i upper) || not (list_any is_merge jobs))
 
--- the merge of upper tables with those of the next level that they meet, if it stands and all of them are free
+-- the merge of upper tables with those of the next level that they meet, if it may run and all of them are free
 abbrev pub merge_if : Bool → ℕ → List Table → List Table → List Job → Option Job
 merge_if stands i upper below jobs = if stands && can_merge jobs upper below then Some (merge_of i upper below) else None
 
--- the same, if it may stand beside the others
+-- the same, if it may run along with the others
 abbrev pub free_merge : ℕ → List Table → List Table → List Job → Option Job
 free_merge i upper below jobs = merge_if (may_stand jobs i upper) i upper below jobs
 
--- that of so many of the oldest runs of level 0, if there are so many, one at least, and no job of level 0, no rewrite and no merge of
+-- that of the `count` oldest runs of level 0, if there are that many, one at least, and no job of level 0, no rewrite and no merge of
 -- several tables of another level
 abbrev pub run_job : ℕ → List (List Table) → List Table → List Job → Option Job
 run_job count runs below jobs =
@@ -31,7 +31,7 @@ tables_from tables None b = []
 tables_from tables (Some a) None = []
 tables_from tables (Some a) (Some b) = filter (meets (record { first = a.first; last = b.last })) tables
 
--- those from the table of a number to that of another: all of the level whose keys are not before the one's or behind the other's
+-- those from the table of a number to that of another: all of the level whose keys are not before the one's or after the other's
 abbrev pub neighbours : ℕ → ℕ → List Table → List Table
 neighbours first last tables = tables_from tables (find (λ t. t.number == first) tables) (find (λ t. t.number == last) tables)
 
@@ -53,7 +53,7 @@ abbrev pub of_least_from_0 : (ℕ → Option Job) → Option Job
 of_least_from_0 job = or_next (job 0) (of_least_level job)
 
 -- The job of a choice: none where there are no such tables, where one that it would take in is not free, where a job of level 0
--- goes on beside the oldest runs, or where it may not stand beside the others.
+-- goes on and the oldest runs are chosen, or where it may not run along with the others.
 abbrev pub chosen : Levels → List Job → Choice → Option Job
 chosen levels jobs (choice.OldestRuns count) = run_job count levels.runs (level levels 1) jobs
 chosen levels jobs (choice.Tables first last) = of_least_level (λ i. tables_job first last i (level levels i) (level levels (suc i)) jobs)

@@ -38,7 +38,7 @@ abbrev pub blocks_of : ℕ → List Table → List PlacedBlock
 blocks_of area [] = []
 blocks_of area (t ∷ rest) = blocks_of_table area t ++ blocks_of area rest
 
--- the data blocks of tables without the first so many of the first table
+-- the data blocks of tables without the first n of the first table
 abbrev pub blocks_left : ℕ → ℕ → List Table → List PlacedBlock
 blocks_left area n [] = []
 blocks_left area n (t ∷ rest) = drop n (blocks_of_table area t) ++ blocks_of area rest
@@ -61,7 +61,7 @@ blocks_behind area key tables = blocks_left area (passed_blocks key tables) tabl
 abbrev pub blocks_from_key : ℕ → Bytes → List Table → List PlacedBlock
 blocks_from_key area key run = blocks_behind area key (filter (λ t. at_most key t.last) run)
 
--- a block lies within so many sectors
+-- a block lies within the first `size` sectors
 abbrev pub EndsWithin : ℕ → PlacedBlock → Type 0
 EndsWithin size block = block.sector + 8 ≤ size
 

@@ -49,8 +49,8 @@ abbrev pub IsHeld : Levels → Bool → Job → Type 0
 IsHeld levels bottom Flush = bottom ≡ false
 IsHeld levels bottom (Merge i upper lower) = HasItsTables levels bottom i upper lower
 
--- Two jobs share no input, and only one is a flush. Beside a merge of several tables stands no other merge: its outputs could
--- come between these, and be taken out with them. Nor does one stand beside a rewrite.
+-- Two jobs share no input, and only one is a flush. No other merge runs with a merge of several tables: its outputs could
+-- come between these, and be taken out with them. Nor does one run with a rewrite.
 pub record AreApart (a b : Job) : Type 0 where
   pub tables : (t u : Table) → IsAmong t (inputs a) → IsAmong u (inputs b) → t.number ≢ u.number
   pub one_flush : is_flush a ≡ true → is_flush b ≡ true → ⊥
@@ -91,7 +91,7 @@ pub record HasVersion (levels : Levels) (v : Version) : Type 0 where
   pub there : IsAmong table (level levels place)
   pub has : IsAmong v table.versions
 
--- A job may be taken beside others: it has its tables, and shares none with them.
+-- A job may be taken while others are held: it has its tables, and shares none with them.
 pub record MayTake (levels : Levels) (jobs : List Job) (job : Job) : Type 0 where
   pub held : IsHeld levels (is_bottom levels job) job
   pub apart : (other : Job) → IsAmong other jobs → AreApart job other

@@ -26,12 +26,12 @@ level levels (suc i) = slice_index_or levels.deeper i []
 abbrev pub places : Levels → List (List Table)
 places levels = levels.runs ++ levels.deeper
 
--- so many of the oldest runs
+-- the `count` oldest runs
 abbrev pub oldest_runs : ℕ → List (List Table) → List (List Table)
 oldest_runs count runs = drop (length runs - count) runs
 
--- The runs before the oldest ones that hold so many tables. As runs have a table at least, the number of tables says which runs
--- these are.
+-- The runs without the oldest ones, which together hold `tables` tables. As each run has a table, the number of tables says which
+-- runs these are.
 abbrev pub newer_runs : ℕ → List (List Table) → List (List Table)
 newer_runs tables [] = []
 newer_runs tables (run ∷ rest) = if nat_le (length (all_tables (run ∷ rest))) tables then [] else run ∷ newer_runs tables rest
@@ -45,14 +45,14 @@ abbrev pub with_level : ℕ → KeyRange → List Table → Levels → Levels
 with_level zero range new levels = levels
 with_level (suc i) range new levels = record levels { deeper = slice_set levels.deeper i (put_at range new (slice_index_or levels.deeper i [])) }
 
--- With outputs one level down, in the place of the tables that meet the range: so many tables of the oldest runs of level 0 are
--- gone, or those of the level that meet it.
+-- With outputs one level down, in the place of the tables that meet the range: the oldest runs of level 0, of `tables` tables,
+-- are gone, or those of the level that meet it.
 abbrev pub lowered : ℕ → KeyRange → ℕ → List Table → Levels → Levels
 lowered zero range tables new levels = with_level (suc zero) range new (record levels { runs = newer_runs tables levels.runs })
 lowered (suc i) range tables new levels = with_level (suc i) range [] (with_level (suc (suc i)) range new levels)
 
--- A merge of so many upper tables with this hull lowers them. Where it has none, its outputs come into the place of the tables of
--- the next level that meet the hull, and no other level changes.
+-- A merge of n upper tables with this hull lowers them. Where n is 0, its outputs come into the place of the tables of the next
+-- level that meet the hull, and no other level changes.
 abbrev pub replaced : ℕ → KeyRange → ℕ → List Table → Levels → Levels
 replaced i range zero new levels = with_level (suc i) range new levels
 replaced i range (suc n) new levels = lowered i range (suc n) new levels
@@ -61,8 +61,8 @@ abbrev pub merged_at : ℕ → Option KeyRange → ℕ → List Table → Levels
 merged_at i (Some range) tables new levels = replaced i range tables new levels
 merged_at i None tables new levels = levels
 
--- The keys in which a merge replaces tables of its output level: the hull of the upper tables, or where there are none that of the
--- lower ones.
+-- The keys in which a merge replaces tables of its output level: the hull of the upper tables, or of the lower ones where there is
+-- no upper table.
 abbrev pub reach : List Table → List Table → Option KeyRange
 reach [] lower = hull lower
 reach (t ∷ rest) lower = hull (t ∷ rest)

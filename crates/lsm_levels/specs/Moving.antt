@@ -13,8 +13,8 @@ count_in test levels = length (filter test (all_tables (places levels)))
 abbrev pub table_count : Levels → ℕ
 table_count levels = length (all_tables (places levels))
 
--- An install of a job leaves just the tables that were there, without its inputs and with its outputs: so many as that pass any
--- test, and so many in all. A flush adds a run to level 0, and a merge none.
+-- An install of a job leaves just the tables that were there, without its inputs and with its outputs: counted by any test, and
+-- in all. A flush adds a run to level 0, and a merge none.
 pub record MovesTables (levels : Levels) (job : Job) (new : List Table) : Type 0 where
   pub passed : (test : Table → Bool) → count_in test (installed_levels levels job new) + length (filter test (inputs job)) ≡ count_in test levels + length (filter test new)
   pub number : table_count (installed_levels levels job new) + length (inputs job) ≡ table_count levels + length new

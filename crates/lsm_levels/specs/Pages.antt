@@ -43,8 +43,8 @@ pub record TakesUpTo (g : Gathering) (cursors : List Cursor) (answer : Result Pa
 abbrev pub IsAnswered : Gathering → List Cursor → Result Page Refusal → Type 0
 IsAnswered g cursors answer = TakesAll g cursors answer ⊎ (TakesUpTo g cursors answer ⊎ (answer ≡ Err NoMemory))
 
--- The version that comes next is taken, behind which the page goes on, and the cursor that stood at it goes on too. It is refused
--- where a read faults, or where the bytes that come next in its blocks are no entry.
+-- The version that comes next is taken, after which the page goes on, and the cursor at it goes on too. It fails where a read
+-- faults, or where the next bytes in its blocks are no entry.
 pub record TakesTurn (i : ℕ) (g : Gathering) (cursors : List Cursor) (old : Source) : Type 0 where
   pub version : Version
   pub at : StandsNext cursors i version
@@ -66,8 +66,8 @@ pub record Gathers (g : Gathering) (cursors : List Cursor) (answer : Result Page
   pub turns : List ℕ
   pub in_turn : GathersInTurn g cursors turns answer old new
 
--- A page is gathered from cursors and from runs behind them: of each run in turn a cursor seeks the key, unless memory is refused.
--- It is refused where a read faults, or where its first block has no version of such a key, or bytes that are no entry come before.
+-- A page is gathered from cursors and from runs after them: in each run in turn a cursor seeks the key, unless memory is refused.
+-- It fails where a read faults, or where the run's first block has no version of such a key, or invalid bytes come before.
 abbrev pub GathersRuns : Gathering → ℕ → Bytes → List (List Table) → List Cursor → Result Page Refusal → Source → Source → Type 0
 GathersRuns g area key [] cursors answer old new = Gathers g cursors answer old new
 GathersRuns g area key (run ∷ older) cursors answer old new =

@@ -24,7 +24,7 @@ is_of_level_0 Flush = false
 is_of_level_0 (Merge i upper lower) = i == 0
 
 -- Whether a merge is a rewrite, or takes several tables of a level from 1 to 3, which may leave room for others between them. So
--- no other merge stands beside it.
+-- no other merge runs along with it.
 abbrev pub are_several : ℕ → List Table → Bool
 are_several i upper = (length upper == 0) || (nat_lt 0 i && nat_lt 1 (length upper))
 
@@ -113,7 +113,8 @@ next_merge levels jobs =
     (or_next (of_least_level (λ i. delete_job (level levels i) (level levels (suc i)) jobs i))
     (of_least_level (λ i. level_job (level levels i) (level levels (suc i)) jobs i (limit_of i))))
 
--- The job that comes next: the first of these that there is. Beside a rewrite or a merge of several tables no other merge does.
+-- The job that comes next: the first of these that there is. While a rewrite or a merge of several tables is held, no other
+-- merge does.
 abbrev pub pick : Bool → Levels → List Job → Option Job
 pick waiting levels jobs = or_next (flush_job waiting jobs) (if list_any is_several jobs then None else next_merge levels jobs)
 

@@ -11,7 +11,7 @@ use Rattle.lsm_codec.specs.Keys.{Bytes}
 use Rattle.lsm_codec.specs.Versions.{Version}
 use Rattle.lsm_mem.specs.Paging.{Page}
 use Rattle.lsm_mem.specs.Gathering.{Gathering, IsFirst, page_with, page_so_far}
-use Rattle.lsm_merge.specs.Inputs.{joined}
+use Rattle.lsm_mem.specs.Versions.{joined}
 use Rattle.lsm_cache.specs.declared.name.BlockName.{BlockName}
 use Rattle.lsm_cache.specs.Fresh.{IsFresh, IsNumberedBelow}
 use Rattle.lsm_levels.specs.Tables.{Table}
@@ -69,7 +69,7 @@ pub record ScansRuns (area : ℕ) (key : Bytes) (runs : List (List Table)) (refu
 abbrev pub blocks_to_come : List Cursor → List (List PlacedBlock)
 blocks_to_come cursors = map (λ c. c.blocks) cursors
 
--- they lie within so many sectors
+-- they lie within the first `size` sectors
 abbrev pub AreEndingWithin : ℕ → List Cursor → Type 0
 AreEndingWithin size cursors = AllByRecursion (λ c. AllByRecursion (EndsWithin size) c.blocks) cursors
 
@@ -87,7 +87,7 @@ abbrev pub IsFairItem : Result Version Refusal → Type 0
 IsFairItem (Ok v) = Unit {0}
 IsFairItem (Err refusal) = refusal ≡ BadTable
 
--- cursors with such items, whose blocks to come lie within so many sectors
+-- cursors with such items, whose blocks to come lie within the first `size` sectors
 pub record AreReady (size : ℕ) (cursors : List Cursor) : Type 0 where
   pub within : AreEndingWithin size cursors
   pub fair : AllByRecursion (λ c. AllByRecursion IsFairItem c.items) cursors
@@ -132,7 +132,7 @@ pub record ComesTo (place : BlockName → Option ℕ) (sectors : List (List ℕ)
 abbrev pub HasCome : Page → Gathering → Type 0
 HasCome page g = ((g.next ≡ None) × (page_with g [] ≡ page)) ⊎ (page_so_far g ≡ page)
 
--- A version is taken, behind which the page goes on.
+-- A version is taken, after which the page goes on.
 pub record TakesOn (v : Version) (old new : Gathering) : Type 0 where
   pub same : (newer older : List Version) → IsFirst v (newer ++ older) → page_with new (newer ++ older) ≡ page_with old (newer ++ v ∷ older)
   pub going : new.next ≡ None

@@ -8,7 +8,7 @@ use Rattle.lsm_mem.specs.Versions.{map_of}
 use Rattle.lsm_mem.specs.Ranges.{newest_each, from_key}
 use Rattle.lsm_mem.specs.Paging.{page_of}
 use Rattle.lsm_mem.specs.Gathering.{gathering, page_with, IsFirst}
-use Rattle.lsm_merge.specs.Inputs.{joined}
+use Rattle.lsm_mem.specs.Versions.{joined}
 use Rattle.lsm_levels.specs.Orders.{IsVersionOrder}
 
 -- A source gives the versions of a place from a key on: all of them, or of each key the newest that is numbered at most n.

@@ -16,7 +16,7 @@ use Rattle.lsm_cache.specs.Fresh.{IsFresh}
 use Rattle.lsm_levels.specs.Tables.{Table, table_at}
 use Rattle.lsm_levels.specs.Asking.{Source, sector_of}
 
--- The data blocks of a table lie within so many sectors.
+-- The data blocks of a table lie within the first `size` sectors.
 pub record LiesWithin (size area : ℕ) (t : Table) : Type 0 where
   pub ends : area + 8 * (t.start + length t.outline.edges) ≤ size
 
@@ -39,13 +39,13 @@ pub record IsPlaced (place : BlockName → Option ℕ) (area : ℕ) (t : Table) 
 abbrev pub ArePlaced : (BlockName → Option ℕ) → ℕ → List (List Table) → Type 0
 ArePlaced place area runs = AllByRecursion (AllByRecursion (IsPlaced place area)) runs
 
--- so many blocks, one after the other from a sector on
+-- n blocks, one after the other from a sector on
 abbrev pub blocks_from : List (List ℕ) → ℕ → ℕ → List (List ℕ)
 blocks_from sectors at zero = []
 blocks_from sectors at (suc n) = block_at sectors at ∷ blocks_from sectors (at + 8) n
 
--- A table stands: its data blocks spell its versions in order, its first key and edges are those of the blocks, so many of
--- the versions are deletes as it tells, and its filter has each of its keys.
+-- A table is stored: its data blocks encode its versions in order, its first key and edges are those of the blocks, its
+-- number of deletes is that of the versions, and its filter has each of its keys.
 pub record IsStored (sectors : List (List ℕ)) (area : ℕ) (t : Table) : Type 0 where
   pub blocks : TableBlocks
   pub spelled : table_of (blocks_from sectors (sector_of area t 0) (length t.outline.edges)) ≡ Some blocks

@@ -27,7 +27,7 @@ pub record Table : Type 0 where
   pub outline : Outline
   pub versions : List Version
 
--- the table of an outline whose extent begins at this block, with so many deletes, and with these versions
+-- the table of an outline whose extent begins at this block, with this number of deletes and these versions
 abbrev pub table_at : Outline → ℕ → ℕ → List Version → Table
 table_at o start deletes versions = record {
   number = o.number;

@@ -1,4 +1,4 @@
-//! Which job a caller may choose, beside the one that comes next.
+//! Which jobs a caller may choose other than the next one.
 
 ghost use Rattle.std.specs.Prelude.{◌≡◌, ◌==◌, ◌&&◌, option_map};
 ghost use Rattle.std.specs.List.{find, list_all};
@@ -16,7 +16,7 @@ use std::alloc::Allocator;
 /// What a job takes in.
 #[derive(Clone, Copy, Debug, PartialEq, Eq)]
 pub enum Choice {
-    /// So many of the oldest runs of level 0, with the tables of level 1 that meet their hull.
+    /// The `count` oldest runs of level 0, with the tables of level 1 that meet their hull.
     OldestRuns { count: usize },
     /// Neighbouring tables of a level from 1 to 3, from the table of one number to that of another, which may be the same; with the
     /// tables of the next level that meet their hull.
@@ -38,7 +38,7 @@ fn table_of<A: Allocator>(tables: &[PlacedTable<A>], number: u64) -> Option<&Pla
     None
 }
 
-/// The tables of a run from one to another, by their numbers; none where one of both is not in it.
+/// The tables of a run from one to another, by their numbers; empty where either isn't in it.
 fn neighbours<A: Allocator>(tables: &Run<A>, first: u64, last: u64) -> &[PlacedTable<A>]
     ensures same { result.now ≡ neighbours first last tables.now }
     ensures run { IsRun result.now }
@@ -52,7 +52,8 @@ fn neighbours<A: Allocator>(tables: &Run<A>, first: u64, last: u64) -> &[PlacedT
     tables.meeting(first.first(), last.last())
 }
 
-/// Whether a merge of these tables of a level may stand beside others: where one of them is of several tables or a rewrite, none may.
+/// Whether a merge of these tables of a level may run along with the held merges: not if either is a rewrite or takes several
+/// tables.
 fn may_stand<H: HeldJobs, A: Allocator>(held: &H, level: usize, upper: &[PlacedTable<A>]) -> bool
     ensures { result ≡ may_stand (H.jobs held.now) level upper.now }
 {
@@ -60,7 +61,7 @@ fn may_stand<H: HeldJobs, A: Allocator>(held: &H, level: usize, upper: &[PlacedT
     !held.has_several() && (!are_several || !held.has_merge())
 }
 
-/// Whether a merge of these tables of a level from 1 to 3 may stand beside others, and all that it takes in are free.
+/// Whether a merge of these tables of a level from 1 to 3 may run along with the held merges, and all of its inputs are free.
 fn is_free_merge<H: HeldJobs, A: Allocator>(
     held: &H,
     level: usize,
@@ -115,7 +116,7 @@ pub(crate) fn rewrite_job<'a, H: HeldJobs, A: Allocator>(
     Some(Pick::Rewrite { above, tables })
 }
 
-/// So many of the oldest runs of level 0 with the tables of level 1 that meet their hull, if there are so many runs, all of these
+/// The `count` oldest runs of level 0 with the tables of level 1 that meet their hull, if there are that many runs, all of these
 /// tables are free, and no job is of level 0.
 pub(crate) fn run_job<'a, H: HeldJobs, A: Allocator>(
     count: usize,

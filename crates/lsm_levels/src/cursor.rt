@@ -25,7 +25,7 @@ fn is_passed(entry: &VersionRef<'_>, from: &[u8]) -> bool
     entry.key.cmp(from).is_lt()
 }
 
-/// Whether an item comes first from a place of a block on: an entry, or bytes that are none.
+/// Whether an item comes first from a place of a block on: an entry, or invalid bytes.
 fn has_item_at(place: &EntryPlace, block: &[u8; 4_096]) -> bool
     ensures { result ≡ has_item (items_at place.now block.now) }
 {
@@ -50,7 +50,7 @@ fn sought_place(block: &[u8; 4_096], place: EntryPlace, from: &[u8]) -> EntryPla
     EntryPlace::bad(block)
 }
 
-/// The entries of a block from a place on: no more than it has bytes, and one item more where bytes behind them are none.
+/// The entries of a block from a place on: at most one for each byte, and one item more where the bytes after them are invalid.
 fn entries_at<'b>(place: &EntryPlace, block: &'b [u8; 4_096]) -> Entries<'b>
     ensures entries { result ≡ items_at place.now block.now }
     ensures few { length (items_at place.now block.now) ≤ 4097 }
@@ -58,15 +58,15 @@ fn entries_at<'b>(place: &EntryPlace, block: &'b [u8; 4_096]) -> Entries<'b>
     place.entries(block)
 }
 
-/// A cursor over a run, which stands at a version, or behind all of them. It keeps the bytes of one block, and lends the
-/// version out of them; blocks come through a cache. It keeps where the present entry lies, so that lending it reads nothing
-/// again. Contracts see what is left of its block, the present entry first, and the blocks to come.
+/// A cursor over a run, at a version or past the last. It keeps the bytes of one block, and lends the version out of them;
+/// blocks come through a cache. It keeps where the present entry lies, so that lending it reads nothing again. Contracts see
+/// what is left of its block, the present entry first, and the blocks to come.
 #[derive(Drop)]
 pub(crate) struct RunCursor<'a, A: Allocator = Global> {
     blocks: Blocks<'a, A>,
     bytes: Box<[u8; 4_096], A>,
     place: EntryPlace,
-    // Where the present entry lies, and the place behind it.
+    // Where the present entry lies, and the place after it.
     present: Option<(EntrySpan, EntryPlace)>,
 }
 
@@ -99,7 +99,7 @@ impl<'a, A: Allocator> RunCursor<'a, A> {
         })
     }
 
-    /// The version at which it stands, none where all are behind it.
+    /// The version at the cursor, `None` past the last.
     pub(crate) fn current(&self) -> Option<VersionRef<'_>>
         ensures { option_map shown result ≡ present self.now }
     {
@@ -213,7 +213,7 @@ impl<'a, A: Allocator> RunCursor<'a, A> {
     }
 
     /// Goes on to the next version of the run, which is of the same key and older, or of a later key. It asks for a block
-    /// where the one that it keeps has no more. It is refused with `Io` for a read that faulted, its last, and with
+    /// where the one that it keeps has no more. Fails with `Io` for a read that faulted, its last, and with
     /// `BadTable` where bytes of a block are no entry; then it is of no more use. It takes no memory.
     pub(crate) fn advance<D: Device>(
         &mut self,
@@ -226,12 +226,12 @@ impl<'a, A: Allocator> RunCursor<'a, A> {
         ensures goes_on { GoesOn (drop 1 self.old.items) self.old.blocks self.new (refusal_of result)
             (record { cache = cache.old; medium = D.medium device.old }) (record { cache = cache.new; medium = D.medium device.new }) }
 
-        // The device is read alone, one block at most, and the blocks to come lie within it.
+        // The device is only read, one block at most, and the blocks to come lie within it.
         ensures asks { AsksOnce self.old.blocks (refusal_of result)
             (record { cache = cache.old; medium = D.medium device.old }) (record { cache = cache.new; medium = D.medium device.new }) }
         ensures within { AllByRecursion (EndsWithin (D.medium device.new).size) self.new.blocks }
 
-        // A block has no more entries than bytes, and one item more where bytes behind them are none.
+        // A block has at most one entry for each byte, and one item more where the bytes after them are invalid.
         ensures few { OnOk result (length self.new.items ≤ 4097) }
     {
         self.step(cache, device)?;
@@ -282,8 +282,8 @@ impl<'a, A: Allocator> RunCursor<'a, A> {
     }
 
     /// A cursor at the first version of a run whose key isn't below `from`, where the data area begins with the sector `area`.
-    /// It takes memory for the bytes of a block first, for want of which it is refused with `NoMemory`. At most one block is
-    /// asked for: the first that doesn't end before the key, as the indexes tell. It is refused with `Io` for a read that
+    /// It takes memory for the bytes of a block first, and fails with `NoMemory` without it. At most one block is
+    /// asked for: the first that doesn't end before the key, as the indexes tell. Fails with `Io` for a read that
     /// faulted, its last, and with `BadTable` where bytes of the block that come first are no entry, or none of its versions
     /// is of such a key.
     pub(crate) fn seek<D: Device>(
@@ -300,7 +300,7 @@ impl<'a, A: Allocator> RunCursor<'a, A> {
         ensures sought { SeeksTo from.now (blocks_from_key area from.now run.now) result
             (record { cache = cache.old; medium = D.medium device.old }) (record { cache = cache.new; medium = D.medium device.new }) }
 
-        // The device is read alone, one block at most, and the blocks to come lie within it.
+        // The device is only read, one block at most, and the blocks to come lie within it.
         ensures asks { AsksOnce (blocks_from_key area from.now run.now) (refusal_of result)
             (record { cache = cache.old; medium = D.medium device.old }) (record { cache = cache.new; medium = D.medium device.new }) }
         ensures within { IfOk result (λ c. AllByRecursion (EndsWithin (D.medium device.new).size) c.blocks) }

@@ -6,7 +6,7 @@ ghost use Rattle.lsm_levels.specs.Lookups.{Copies, answer_of};
 use lsm_device::Refusal;
 use std::alloc::Allocator;
 
-/// A copy of a value, if there is one. It is refused with `NoMemory` for the copy alone.
+/// A copy of a value, if there is one. Fails only with `NoMemory`, for the copy.
 pub(crate) fn copied<A: Allocator + Clone>(
     alloc: &A,
     value: Option<&[u8]>,

@@ -70,7 +70,7 @@ pub(crate) fn hull_of<A: Allocator>(tables: &[PlacedTable<A>]) -> Option<KeyRang
     hull_onto(tables, None)
 }
 
-/// The keys in which a merge replaces tables: the hull of the upper tables, or where there are none that of the lower ones.
+/// The keys in which a merge replaces tables: the hull of the upper tables, or of the lower ones where there is no upper table.
 pub(crate) fn reach<'a, A: Allocator>(
     upper: &'a [PlacedTable<A>],
     lower: &'a [PlacedTable<A>],

@@ -36,7 +36,7 @@ impl<A: Allocator> Model for Levels<A> {
     ghost invariant = { λ l. AreRuns (record { runs = l.runs.items; deeper = l.deeper.items }) };
 }
 
-/// How many runs are left before the oldest ones that hold so many tables.
+/// How many runs are left without the oldest ones, which together hold `tables` tables.
 fn count_newer<A: Allocator>(runs: &[Run<A>], tables: usize) -> usize
     ensures { take result runs.now ≡ newer_runs tables runs.now }
 {
@@ -52,7 +52,7 @@ fn count_newer<A: Allocator>(runs: &[Run<A>], tables: usize) -> usize
     kept
 }
 
-/// Drops the oldest runs of level 0 that hold so many tables. It takes no memory.
+/// Drops the oldest runs of level 0, which together hold `tables` tables. It takes no memory.
 fn drop_oldest<A: Allocator>(runs: &mut Vec<Run<A>, A>, tables: usize)
     ensures { runs.new.items ≡ newer_runs tables runs.old.items }
 {
@@ -186,8 +186,8 @@ impl<A: Allocator> Levels<A> {
     /// The job that comes next, where sealed versions wait or not, and slots are held by these jobs: the first of these that
     /// there is.
     ///
-    /// 1. A flush, where sealed versions wait and no flush holds a slot. Beside a rewrite, or a merge of several tables of a level
-    ///    from 1 to 3, nothing else comes.
+    /// 1. A flush, where sealed versions wait and no flush holds a slot. While a rewrite or a merge of several tables of a level
+    ///    from 1 to 3 is held, nothing else comes.
     /// 2. With 4 or more runs of level 0 and no job of it: the oldest run with the tables of level 1 that meet its hull, if
     ///    all of them are free. A table is free where no job has it as input.
     /// 3. Of the least level from 1 to 3 that has such a table: the least-numbered table of which half the entries or more are
@@ -259,7 +259,7 @@ impl<A: Allocator> Levels<A> {
         rewrite_job(first, last, 3, level_4, held)
     }
 
-    /// The job of so many of the oldest runs of level 0.
+    /// The merge of the `count` oldest runs of level 0.
     fn choose_runs<H: HeldJobs>(&self, count: usize, held: &H) -> Option<Pick<'_, A>>
         ensures { option_map job_of result ≡ chosen self.now (H.jobs held.now) (OldestRuns count) }
     {

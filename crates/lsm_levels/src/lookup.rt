@@ -9,7 +9,7 @@ ghost use Rattle.lsm_levels.specs.Lookups.{LooksUp, answer_of, value_of};
 ghost use Rattle.lsm_levels.specs.Stored.{LiesWithin, AreWithin};
 ghost use Rattle.lsm_levels.specs.Founds.{CopiesOfRuns, TestsRuns, spanned_in};
 
-use crate::asking::asked_of_run;
+use crate::asking::{Query, asked_of_run};
 use crate::found::copied;
 use crate::levels::Levels;
 use crate::reading::find_in_block;
@@ -20,28 +20,19 @@ use lsm_device::{Device, Refusal};
 use lsm_table::EntrySpan;
 use std::alloc::Allocator;
 
-/// What is looked for: the newest version of a key that is numbered at most `at`, in tables whose blocks begin at the
-/// sector `area`.
-#[derive(Clone, Copy)]
-pub(crate) struct Query<'k> {
-    pub area: u32,
-    pub key: &'k [u8],
-    pub at: u64,
-}
-
 /// Where a version lies in the one block of a run that may have one. The bytes of the block come to `bytes`.
 fn find_in_run<D: Device, A: Allocator + Clone>(
     run: &Run<A>,
-    query: Query<'_>,
+    query: &Query<'_>,
     bytes: &mut [u8; 4_096],
     cache: &mut Cache<A>,
     device: &mut D,
 ) -> Result<Option<EntrySpan>, Refusal>
-    requires { AllByRecursion (LiesWithin (D.medium device.old).size query.area) run.now }
-    ensures { Says query.entry.key.now query.entry.at (asked_of_run query.entry.area query.entry.key.now query.entry.at run.now) (spanned_in bytes.new result)
+    requires { AllByRecursion (LiesWithin (D.medium device.old).size query.now.area) run.now }
+    ensures { Says query.now.key.now query.now.at (asked_of_run query.now.area query.now.key.now query.now.at run.now) (spanned_in bytes.new result)
         (record { cache = cache.old; medium = D.medium device.old }) (record { cache = cache.new; medium = D.medium device.new }) }
 {
-    let Some(block) = asked_of_run(run, query.area, query.key, query.at) else {
+    let Some(block) = asked_of_run(run, query) else {
         return Ok(None);
     };
     cache.get(
@@ -56,13 +47,13 @@ fn find_in_run<D: Device, A: Allocator + Clone>(
 
 fn find_in_runs<D: Device, A: Allocator + Clone>(
     runs: &[Run<A>],
-    query: Query<'_>,
+    query: &Query<'_>,
     bytes: &mut [u8; 4_096],
     cache: &mut Cache<A>,
     device: &mut D,
 ) -> Result<Option<EntrySpan>, Refusal>
-    requires { AreWithin (D.medium device.old).size query.area runs.now }
-    ensures { LooksUp query.entry.area query.entry.key.now query.entry.at runs.now (spanned_in bytes.new result)
+    requires { AreWithin (D.medium device.old).size query.now.area runs.now }
+    ensures { LooksUp query.now.area query.now.key.now query.now.at runs.now (spanned_in bytes.new result)
         (record { cache = cache.old; medium = D.medium device.old }) (record { cache = cache.new; medium = D.medium device.new }) }
 {
     for run in runs {
@@ -76,13 +67,13 @@ fn find_in_runs<D: Device, A: Allocator + Clone>(
 /// Where a version lies that the runs of the levels have, the newer asked first. The bytes of its block come to `bytes`.
 fn find_in_levels<D: Device, A: Allocator + Clone>(
     levels: &Levels<A>,
-    query: Query<'_>,
+    query: &Query<'_>,
     bytes: &mut [u8; 4_096],
     cache: &mut Cache<A>,
     device: &mut D,
 ) -> Result<Option<EntrySpan>, Refusal>
-    requires { AreWithin (D.medium device.old).size query.area (places levels.now) }
-    ensures { LooksUp query.entry.area query.entry.key.now query.entry.at (places levels.now) (spanned_in bytes.new result)
+    requires { AreWithin (D.medium device.old).size query.now.area (places levels.now) }
+    ensures { LooksUp query.now.area query.now.key.now query.now.at (places levels.now) (spanned_in bytes.new result)
         (record { cache = cache.old; medium = D.medium device.old }) (record { cache = cache.new; medium = D.medium device.new }) }
 {
     if let Some(span) = find_in_runs(levels.runs(), query, bytes, cache, device)? {
@@ -101,13 +92,13 @@ fn value_at(block: &[u8; 4_096], found: Option<EntrySpan>) -> Option<&[u8]>
 /// What the runs of the levels say of a key, the newer asked first, with the value copied.
 pub(crate) fn copy_from_levels<D: Device, A: Allocator + Clone>(
     levels: &Levels<A>,
-    query: Query<'_>,
+    query: &Query<'_>,
     alloc: &A,
     cache: &mut Cache<A>,
     device: &mut D,
 ) -> Result<Option<Vec<u8, A>>, Refusal>
-    requires { AreWithin (D.medium device.old).size query.area (places levels.now) }
-    ensures { CopiesOfRuns query.entry.area query.entry.key.now query.entry.at (places levels.now) (answer_of result)
+    requires { AreWithin (D.medium device.old).size query.now.area (places levels.now) }
+    ensures { CopiesOfRuns query.now.area query.now.key.now query.now.at (places levels.now) (answer_of result)
         (record { cache = cache.old; medium = D.medium device.old }) (record { cache = cache.new; medium = D.medium device.new }) }
 {
     let mut bytes = [0; 4_096];
@@ -118,13 +109,13 @@ pub(crate) fn copy_from_levels<D: Device, A: Allocator + Clone>(
 /// Whether what the runs of the levels say of a key meets a guard, compared where it lies.
 pub(crate) fn test_in_levels<D: Device, A: Allocator + Clone>(
     levels: &Levels<A>,
-    query: Query<'_>,
+    query: &Query<'_>,
     guard: &Guard<A>,
     cache: &mut Cache<A>,
     device: &mut D,
 ) -> Result<bool, Refusal>
-    requires { AreWithin (D.medium device.old).size query.area (places levels.now) }
-    ensures { TestsRuns query.entry.area query.entry.key.now query.entry.at (places levels.now) guard.now result
+    requires { AreWithin (D.medium device.old).size query.now.area (places levels.now) }
+    ensures { TestsRuns query.now.area query.now.key.now query.now.at (places levels.now) guard.now result
         (record { cache = cache.old; medium = D.medium device.old }) (record { cache = cache.new; medium = D.medium device.new }) }
 {
     let mut bytes = [0; 4_096];

@@ -1,4 +1,4 @@
-//! A cursor over versions of a memory table.
+//! A cursor over versions of a memtable.
 
 ghost use Rattle.std.specs.Prelude.{◌≡◌, drop, option_map, slice_get};
 ghost use Rattle.lsm_codec.specs.References.{shown};
@@ -8,8 +8,8 @@ use lsm_mem::Range;
 use std::alloc::Allocator;
 use std::marker::Model;
 
-/// A cursor over a range of memory, which stands at a version, or behind all of them. Contracts see the versions that are
-/// left, the present one first.
+/// A cursor over a range of a memtable, at a version or past the last. Contracts see the versions that are left, the present
+/// one first.
 #[derive(Drop)]
 pub(crate) struct MemoryCursor<'a, A: Allocator> {
     present: Option<VersionRef<'a>>,
@@ -36,7 +36,7 @@ impl<'a, A: Allocator> MemoryCursor<'a, A> {
         MemoryCursor { present, rest }
     }
 
-    /// The version at which it stands, none where all are behind it.
+    /// The version at the cursor, `None` past the last.
     pub(crate) fn current(&self) -> Option<VersionRef<'_>>
         ensures { option_map shown result ≡ slice_get self.now 0 }
     {

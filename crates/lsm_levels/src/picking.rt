@@ -183,8 +183,8 @@ fn lesser<'a, H: HeldJobs, A: Allocator>(
 }
 
 /// The least-numbered table that is wanted and free, as are all those of the next level that meet it. It goes once through both levels
-/// side by side: those of the next level that end before a table end before the tables behind it too. As the tables of a
-/// level lie apart, fewer pairs of tables meet than both levels have tables, so its time is linear in these.
+/// at the same time: tables of the next level that end before a table end before the later ones too. As the tables of a level lie
+/// apart, fewer pairs of tables meet than both levels have tables, so its time is linear in these.
 fn least_to_merge<'a, H: HeldJobs, A: Allocator>(
     held: &H,
     wanted: Wanted,
@@ -214,7 +214,7 @@ fn is_less<A: Allocator>(table: &PlacedTable<A>, other: Option<&PlacedTable<A>>)
     }
 }
 
-/// So many of the oldest runs of level 0.
+/// The `count` oldest runs of level 0.
 pub(crate) fn oldest<A: Allocator>(runs: &[Run<A>], count: usize) -> &[Run<A>]
     requires { count ≤ length runs.now }
     ensures { result.now ≡ oldest_runs count runs.now }

@@ -53,8 +53,8 @@ fn is_sooner<A: Allocator>(
     }
 }
 
-/// How many of the places in a queue a version at a place comes before. Most often that is all of them: the version behind the
-/// one that came last is often the next, so it is compared with the one that would come next first.
+/// How many of the places in a queue a version at a place comes before. Most often that is all of them: the version after the
+/// last one taken is often the next, so it is compared with the next in the queue first.
 fn count_later<A: Allocator>(
     places: &[usize],
     sources: &[SourceCursor<'_, A>],
@@ -112,7 +112,7 @@ impl<A: Allocator> Queue<A> {
         Ok(Queue { places })
     }
 
-    /// The place of the source that comes next, none where no source has a version left.
+    /// The place of the source that comes next, `None` where no source has a version left.
     pub(crate) fn next(&self) -> Option<usize>
         ensures last { MatchOption result (self.now ≡ []) (λ i. EndsIn i self.now) }
         ensures next { (heads : List (Option Version)) → IsQueue heads (λ j. true) self.now

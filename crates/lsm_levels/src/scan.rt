@@ -52,7 +52,7 @@ fn advance_at<D: Device, A: Allocator + Clone>(
     Ok(())
 }
 
-/// Takes the version that comes next, and goes on to the one behind it. It answers whether the page goes on.
+/// Takes the next version, and goes on to the one after it. Returns whether the page goes on.
 fn step<D: Device, A: Allocator + Clone>(
     sources: &mut [SourceCursor<'_, A>],
     queue: &mut Queue<A>,

@@ -63,7 +63,7 @@ pub(crate) fn ends<A: Allocator>(run: &[PlacedTable<A>]) -> Option<(&[u8], &[u8]
     }
 }
 
-/// Turns what stands from a place on by so many places to the left.
+/// Rotates the tables from index `from` on left by `by` places.
 fn rotate_from<A: Allocator>(tables: &mut [PlacedTable<A>], from: usize, by: usize)
     requires { from + by ≤ length tables.old }
     ensures { tables.new ≡ take from tables.old ++ (drop by (drop from tables.old) ++ take by (drop from tables.old)) }

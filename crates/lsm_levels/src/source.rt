@@ -1,4 +1,4 @@
-//! A cursor over versions of one place: of a memory table or of a run.
+//! A cursor over versions of one place: of a memtable or of a run.
 
 ghost use Rattle.std.specs.Prelude.{◌≡◌, ◌≤◌, ◌+◌, Ok, [], drop, length, map, option_map, OnOk};
 ghost use Rattle.std.specs.List.{AllByRecursion};
@@ -21,8 +21,8 @@ enum Place<'a, A: Allocator> {
     Run(RunCursor<'a, A>),
 }
 
-/// A cursor over versions of a memory table or of a run, which stands at a version, or behind all of them. Contracts see it as
-/// a cursor over a run: that over memory has all of its versions in one block, and none to come.
+/// A cursor over the versions of a memtable or of a run, at a version or past the last. Contracts see it as a cursor over a
+/// run: over a memtable all of its versions are in one block, with no blocks to come.
 #[derive(Drop)]
 pub(crate) struct SourceCursor<'a, A: Allocator = Global> {
     place: Place<'a, A>,
@@ -56,7 +56,7 @@ impl<'a, A: Allocator> SourceCursor<'a, A> {
         }
     }
 
-    /// The version at which it stands, none where all are behind it.
+    /// The version at the cursor, `None` past the last.
     pub(crate) fn current(&self) -> Option<VersionRef<'_>>
         ensures { option_map shown result ≡ present self.now }
     {
@@ -67,7 +67,7 @@ impl<'a, A: Allocator> SourceCursor<'a, A> {
     }
 
     /// Goes on to the next version. In memory that is one of the next key; in a run it may be of the same key and older, and a
-    /// block is asked for where the one that is kept has no more. It is refused with `Io` for a read that faulted, its last,
+    /// block is asked for where the one that is kept has no more. Fails with `Io` for a read that faulted, its last,
     /// and with `BadTable` where bytes of a block are no entry; then it is of no more use. It takes no memory.
     pub(crate) fn advance<D: Device>(
         &mut self,
@@ -80,7 +80,7 @@ impl<'a, A: Allocator> SourceCursor<'a, A> {
         ensures goes_on { GoesOn (drop 1 self.old.items) self.old.blocks self.new (refusal_of result)
             (record { cache = cache.old; medium = D.medium device.old }) (record { cache = cache.new; medium = D.medium device.new }) }
 
-        // The device is read alone, one block at most, and the blocks to come lie within it.
+        // The device is only read, one block at most, and the blocks to come lie within it.
         ensures asks { AsksOnce self.old.blocks (refusal_of result)
             (record { cache = cache.old; medium = D.medium device.old }) (record { cache = cache.new; medium = D.medium device.new }) }
         ensures within { AllByRecursion (EndsWithin (D.medium device.new).size) self.new.blocks }

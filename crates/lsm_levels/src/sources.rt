@@ -21,7 +21,7 @@ use lsm_cache::Cache;
 use lsm_device::{Device, Refusal};
 use std::alloc::Allocator;
 
-/// Puts a cursor over a run behind other sources, which stands at its first version whose key isn't below `from`.
+/// Adds to the sources a cursor over a run, at the first version whose key isn't below `from`.
 fn seek_run<'a, D: Device, A: Allocator + Clone>(
     sources: &mut Vec<SourceCursor<'a, A>, A>,
     run: &'a Run<A>,
@@ -51,7 +51,7 @@ fn seek_run<'a, D: Device, A: Allocator + Clone>(
     Ok(())
 }
 
-/// Puts cursors over runs behind other sources.
+/// Adds to the sources a cursor over each run.
 pub(crate) fn seek_runs<'a, D: Device, A: Allocator + Clone>(
     sources: &mut Vec<SourceCursor<'a, A>, A>,
     runs: &'a [Run<A>],

@@ -110,8 +110,8 @@ impl<A: Allocator> Placed<A> {
 }
 
 impl<A: Allocator> PlacedTable<A> {
-    /// A table with these versions, of which so many are deletes and none takes more than so many bytes, in the extent that its
-    /// record lists.
+    /// A table with these versions, of which `deletes` are deletes and none takes more than `largest` bytes, in the extent that
+    /// its record lists.
     fn new(
         alloc: A,
         table: Table<A>,
@@ -135,9 +135,9 @@ impl<A: Allocator> PlacedTable<A> {
         Ok(PlacedTable { shared })
     }
 
-    /// Opens the table that a manifest lists, with so many deletes, with this footer block, these index blocks and this filter
-    /// block, as a table with these versions. `BadTable` where they are not those of such a table; want of memory is
-    /// `NoMemory`.
+    /// Opens the table that a manifest lists, from its footer block, index blocks and filter block, with `deletes` deletes and
+    /// these versions. Fails with `BadTable` where the blocks aren't those of such a table, with `NoMemory` where an
+    /// allocation fails.
     pub fn open(
         alloc: A,
         listed: TableRecord,
@@ -155,7 +155,7 @@ impl<A: Allocator> PlacedTable<A> {
         PlacedTable::open_sized(alloc, listed, deletes, LARGEST, footer, index, filter)
     }
 
-    /// As `open`, where no version takes more than so many bytes.
+    /// As `open`, where no version takes more than `largest` bytes.
     fn open_sized(
         alloc: A,
         listed: TableRecord,
@@ -177,7 +177,7 @@ impl<A: Allocator> PlacedTable<A> {
         Ok(PlacedTable::new(alloc, table, listed, deletes, largest)?)
     }
 
-    /// Opens an image as a table with these versions, none of which takes more than so many bytes.
+    /// Opens an image as a table with these versions, none of which takes more than `largest` bytes.
     fn open_image(
         alloc: A,
         image: &Image<A>,
@@ -209,8 +209,7 @@ impl<A: Allocator> PlacedTable<A> {
         )
     }
 
-    /// The table of an image under a number up to 2^63, in the extent from this block on. It is refused for want of memory
-    /// alone.
+    /// The table of an image under a number up to 2^63, in the extent from this block on. Fails only with NoMemory.
     pub fn of_image(
         alloc: A,
         image: &Image<A>,

@@ -17,7 +17,7 @@ ghost use Rattle.lsm_mem.specs.Ranges.{from_key, newest_each};
 ghost use Rattle.lsm_mem.specs.Paging.{page_of};
 ghost use Rattle.lsm_mem.specs.Gathering.{Gathering, gathering};
 ghost use Rattle.lsm_codec.specs.Keys.{Bytes};
-ghost use Rattle.lsm_merge.specs.Inputs.{joined};
+ghost use Rattle.lsm_mem.specs.Versions.{joined};
 ghost use Rattle.lsm_cache.specs.declared.name.BlockName.{BlockName as Name};
 ghost use Rattle.lsm_cache.specs.Fresh.{IsFresh, IsNumberedBelow};
 ghost use Rattle.lsm_levels.specs.Levels.{places};
@@ -29,9 +29,10 @@ ghost use Rattle.lsm_levels.specs.Scans.{AreReady, AsksOn, AsksSome, ComesTo, Ha
 ghost use Rattle.lsm_levels.specs.SourceCursors.{cursor_of_versions};
 ghost use Rattle.lsm_levels.specs.Lookups.{IsLookUp, IsTest, answer_of, sealed_now, versions_in_places};
 
+use crate::asking::Query;
 use crate::found::copied;
 use crate::levels::Levels;
-use crate::lookup::{Query, copy_from_levels, test_in_levels};
+use crate::lookup::{copy_from_levels, test_in_levels};
 use crate::scan::gather_all;
 use crate::source::SourceCursor;
 use crate::sources::seek_runs;
@@ -39,6 +40,7 @@ use crate::within::are_within;
 use lsm_cache::Cache;
 use lsm_codec::{Guard, VersionRef};
 use lsm_device::{Device, Refusal};
+use lsm_filter::KeyHash;
 use lsm_mem::{Mem, Page, PageBuilder, Sealed};
 use std::alloc::{AllocError, Allocator, Global};
 
@@ -53,7 +55,7 @@ pub struct ReadView<'a, A: Allocator = Global> {
 }
 
 impl<'a, A: Allocator> ReadView<'a, A> {
-    /// Whether the data blocks of each table lie within so many sectors.
+    /// Whether the data blocks of each table lie within the first `sectors` sectors.
     pub fn is_within(&self, sectors: u32) -> bool
         ensures { IsTrue result ↔ AreWithin sectors self.now.area (places self.now.levels.now) }
     {
@@ -92,9 +94,10 @@ impl<'a, A: Allocator + Clone> ReadView<'a, A> {
         let query = Query {
             area: self.area,
             key,
+            hash: KeyHash::of(key),
             at,
         };
-        copy_from_levels(self.levels, query, alloc, cache, device)
+        copy_from_levels(self.levels, &query, alloc, cache, device)
     }
 
     /// Whether what memory, sealed memory and the runs of the levels say of a guard's key meets it.
@@ -109,23 +112,25 @@ impl<'a, A: Allocator + Clone> ReadView<'a, A> {
         ensures { IsTest self.now.mem.now (sealed_now self.now.sealed) (places self.now.levels.now) self.now.area guard.now at result
             (record { cache = cache.old; medium = D.medium device.old }) (record { cache = cache.new; medium = D.medium device.new }) }
     {
-        if let Some(version) = self.newest_in_memory(guard.key(), at) {
+        let key = guard.key();
+        if let Some(version) = self.newest_in_memory(key, at) {
             return Ok(guard.is_met_by(version.value));
         }
         let query = Query {
             area: self.area,
-            key: guard.key(),
+            key,
+            hash: KeyHash::of(key),
             at,
         };
-        test_in_levels(self.levels, query, guard, cache, device)
+        test_in_levels(self.levels, &query, guard, cache, device)
     }
 
-    /// The value of a key at a count of batches, or none where it has none. Memory is asked first, then sealed memory, then
-    /// the runs of the levels, the newer first, until one has a version of the key that is numbered at most `at`. Of each run
-    /// at most one block is asked for: that of the one table whose range has the key, where filter and index don't tell that it
+    /// The value of a key at a count of batches, `None` where it has none. Memory is asked first, then sealed memory, then the
+    /// runs of the levels, the newer first, until one has a version of the key that is numbered at most `at`. Of each run at
+    /// most one block is asked for: that of the one table whose range has the key, where filter and index don't tell that it
     /// has no such version. The value is copied once, for the caller.
     ///
-    /// It is refused with `Io` for a read that faulted, its last; with `BadTable` where bytes of a block are no entry; and with
+    /// Fails with `Io` for a read that faulted, its last; with `BadTable` where bytes of a block are no entry; and with
     /// `NoMemory` for the copy.
     pub fn find<D: Device>(
         &self,
@@ -156,7 +161,7 @@ impl<'a, A: Allocator + Clone> ReadView<'a, A> {
             → IsFresh place (seen (disk (D.medium device.old))) cache.old → IsFresh place (seen (disk (D.medium device.new))) cache.new }
         ensures numbered { (number : ℕ) → AreNumberedBelow number (places self.now.levels.now) → IsNumberedBelow number cache.old → IsNumberedBelow number cache.new }
 
-        // The device is read alone, eight sectors a run at most. It is refused with Io only for a read that faulted, its last.
+        // The device is only read, eight sectors a run at most. Fails with Io only for a read that faulted, its last.
         ensures refused { IfErr result (λ refusal. (refusal ≡ Io) ⊎ ((refusal ≡ BadTable) ⊎ (refusal ≡ NoMemory))) }
         ensures faults { (D.medium device.new).calls.faults ≡ faults_after (faultless result) (D.medium device.old).calls.faults }
         ensures stops { IfErr result (λ refusal. refusal ≡ Io → IsTrue (D.medium device.new).calls.last_faulted) }
@@ -173,7 +178,7 @@ impl<'a, A: Allocator + Clone> ReadView<'a, A> {
     /// Whether the map at a count of batches meets a guard. Its key is looked up as [`ReadView::find`] looks keys up, and what is
     /// found is compared where it lies: no memory is taken.
     ///
-    /// It is refused with `Io` for a read that faulted, its last; and with `BadTable` where bytes of a block are no entry.
+    /// Fails with `Io` for a read that faulted, its last; and with `BadTable` where bytes of a block are no entry.
     pub fn meets_guard<D: Device>(
         &self,
         cache: &mut Cache<A>,
@@ -320,7 +325,7 @@ impl<'a, A: Allocator + Clone> ReadView<'a, A> {
     /// from `from` on. Blocks of a run are asked for in turn, each once at most, from the first on that doesn't end before
     /// `from`. Only the pairs are copied. The time for a version grows with the logarithm of the runs.
     ///
-    /// It is refused with `Io` for a read that faulted, its last; with `BadTable` where bytes of a block are no entry; and with
+    /// Fails with `Io` for a read that faulted, its last; with `BadTable` where bytes of a block are no entry; and with
     /// `NoMemory`.
     pub fn scan<D: Device>(
         &self,
@@ -337,7 +342,7 @@ impl<'a, A: Allocator + Clone> ReadView<'a, A> {
         ensures asks { ScansRuns self.now.area range.entry.0.now (places self.now.levels.now) (refusal_of result)
             (record { cache = cache.old; medium = D.medium device.old }) (record { cache = cache.new; medium = D.medium device.new }) }
 
-        // The page of what the blocks that it asks for have, whatever that is; it is refused with `BadTable` just where bytes that
+        // The page of what the blocks that it asks for have, whatever that is; it fails with `BadTable` just where bytes that
         // are no entry come next in one.
         ensures scans { IsScan self.now.mem.now (sealed_now self.now.sealed) (places self.now.levels.now) self.now.area range.entry.0.now (option_map (λ to. to.now) range.entry.1) limit at result
             (record { cache = cache.old; medium = D.medium device.old }) (record { cache = cache.new; medium = D.medium device.new }) }

@@ -23,7 +23,7 @@ fn is_run_within<A: Allocator>(run: &Run<A>, sectors: u32, area: u32) -> bool
         .all(|table| is_within(table, sectors, area))
 }
 
-/// Whether the data blocks of all tables lie within so many sectors.
+/// Whether the data blocks of all tables lie within the first `sectors` sectors.
 pub(crate) fn are_within<A: Allocator>(runs: &[Run<A>], sectors: u32, area: u32) -> bool
     ensures { result ≡ list_all (list_all (is_within sectors area)) runs.now }
 {

@@ -4,7 +4,7 @@ ghost use Rattle.std.specs.Prelude.{◌≡◌, ◌<◌, ◌≤◌, length, IfSom
 ghost use Rattle.lsm_codec.specs.Versions.{newest};
 ghost use Rattle.lsm_codec.specs.Indexes.{IsIndex};
 ghost use Rattle.lsm_codec.specs.Footers.{IsSummary, summary_of};
-ghost use Rattle.lsm_filter.specs.Bits.{is_perhaps};
+ghost use Rattle.lsm_filter.specs.Bits.{is_perhaps, has_bits};
 ghost use Rattle.lsm_table.specs.Division.{TableBlocks, entries_of};
 ghost use Rattle.lsm_table.specs.BlockEdges.{edges_of, first_key_of, last_key};
 ghost use Rattle.lsm_table.specs.Places.{place_of, at_place, blocks_before, IsSorted};
@@ -14,7 +14,7 @@ use crate::edges::{blocks_before, last_key, place_in};
 use crate::outline::{go_together, is_of_record};
 use lsm_codec::{Edge, Footer, Index, Key, TableRecord};
 use lsm_device::Refusal;
-use lsm_filter::Filter;
+use lsm_filter::{Filter, KeyHash};
 use std::alloc::{Allocator, Global};
 use std::marker::Model;
 
@@ -159,6 +159,13 @@ impl<A: Allocator> Table<A> {
         ensures { result ≡ is_perhaps self.now.filter key.now }
     {
         self.filter.perhaps(key)
+    }
+
+    /// What [`Table::perhaps`] answers for the keys that have this hash. It takes no memory, and reads no key.
+    pub fn perhaps_hashed(&self, hash: KeyHash) -> bool
+        ensures { result ≡ has_bits self.now.filter hash }
+    {
+        self.filter.perhaps_hashed(hash)
     }
 
     /// How many data blocks end before the key, as the index tells, found by a binary search over the edges. It takes no memory.

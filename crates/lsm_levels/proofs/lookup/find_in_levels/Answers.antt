@@ -14,7 +14,7 @@ use Rattle.lsm_levels.proofs.lookup.find_in_levels.Goals as goal
 pub returns-in_err-span : goal.returns-in_err-span
 returns-in_err-span g c =
     let p = err_from_is_err_and c.from_residual.result c.from_residual.ensures.1 in
-    let q = c.args.query in
+    let q = c.args.query.now in
     let l = c.args.levels.now in
     let old : Source = record { cache = c.args.cache.now; medium = g.D.Device.medium c.args.device.now } in
     let new : Source = record { cache = c.find_in_runs.new.cache; medium = g.D.Device.medium c.find_in_runs.new.device } in
@@ -22,7 +22,7 @@ returns-in_err-span g c =
 
 pub returns-in-Some : goal.returns-in-Some
 returns-in-Some g c =
-    let q = c.args.query in
+    let q = c.args.query.now in
     let l = c.args.levels.now in
     let old : Source = record { cache = c.args.cache.now; medium = g.D.Device.medium c.args.device.now } in
     let new : Source = record { cache = c.find_in_runs.new.cache; medium = g.D.Device.medium c.find_in_runs.new.device } in
@@ -31,7 +31,7 @@ returns-in-Some g c =
 
 pub find_in_runs-requires-2 : goal.find_in_runs-requires-2
 find_in_runs-requires-2 g c =
-    let q = c.args.query in
+    let q = c.args.query.now in
     let l = c.args.levels.now in
     let old : Source = record { cache = c.args.cache.now; medium = g.D.Device.medium c.args.device.now } in
     let new : Source = record { cache = c.find_in_runs.new.cache; medium = g.D.Device.medium c.find_in_runs.new.device } in
@@ -41,7 +41,7 @@ find_in_runs-requires-2 g c =
 pub returns-in_err-find_in_runs : goal.returns-in_err-find_in_runs
 returns-in_err-find_in_runs g c =
     let p = err_from_is_err_and c.from_residual-in_err-find_in_runs.result c.from_residual-in_err-find_in_runs.ensures.1 in
-    let q = c.args.query in
+    let q = c.args.query.now in
     let l = c.args.levels.now in
     let old : Source = record { cache = c.args.cache.now; medium = g.D.Device.medium c.args.device.now } in
     let mid : Source = record { cache = c.find_in_runs.new.cache; medium = g.D.Device.medium c.find_in_runs.new.device } in
@@ -52,7 +52,7 @@ returns-in_err-find_in_runs g c =
 
 pub returns : goal.returns
 returns g c =
-    let q = c.args.query in
+    let q = c.args.query.now in
     let l = c.args.levels.now in
     let old : Source = record { cache = c.args.cache.now; medium = g.D.Device.medium c.args.device.now } in
     let mid : Source = record { cache = c.find_in_runs.new.cache; medium = g.D.Device.medium c.find_in_runs.new.device } in

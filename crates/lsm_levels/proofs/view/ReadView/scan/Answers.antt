@@ -4,7 +4,7 @@ use Rattle.lsm_device.specs.declared.refusal.Refusal.TheVariants.{NoMemory}
 use Rattle.lsm_mem.specs.Versions.{map_of}
 use Rattle.lsm_mem.specs.Paging.{page_of}
 use Rattle.lsm_mem.specs.Gathering.{Gathering, gathering}
-use Rattle.lsm_merge.specs.Inputs.{joined}
+use Rattle.lsm_mem.specs.Versions.{joined}
 use Rattle.lsm_levels.specs.Levels.{places}
 use Rattle.lsm_levels.specs.Lookups.{sealed_now, versions_in_places}
 use Rattle.lsm_levels.specs.Asking.{Source}

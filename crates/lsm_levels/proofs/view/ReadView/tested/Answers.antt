@@ -10,11 +10,11 @@ pub returns-in-Some : goal.returns-in-Some
 returns-in-Some g c =
     let v = c.args.self.now in
     let old : Source = record { cache = c.args.cache.now; medium = g.D.Device.medium c.args.device.now } in
-    tests_in_memory v.mem.now (sealed_now v.sealed) (places v.levels.now) v.area c.args.guard.now c.args.at (shown c.in-Some.version) (Ok c.is_met_by.result) old (rw c.key.ensures.same at c.in-Some.ensures) (ap (λ b. Ok b) c.is_met_by.ensures)
+    tests_in_memory v.mem.now (sealed_now v.sealed) (places v.levels.now) v.area c.args.guard.now c.args.at (shown c.in-Some.version) (Ok c.is_met_by.result) old (rw c.key-key.ensures.same at c.in-Some.ensures) (ap (λ b. Ok b) c.is_met_by.ensures)
 
 pub returns : goal.returns
 returns g c =
     let v = c.args.self.now in
     let old : Source = record { cache = c.args.cache.now; medium = g.D.Device.medium c.args.device.now } in
     let new : Source = record { cache = c.test_in_levels.new.cache; medium = g.D.Device.medium c.test_in_levels.new.device } in
-    tests_in_runs v.mem.now (sealed_now v.sealed) (places v.levels.now) v.area c.args.guard.now c.args.at c.test_in_levels.result old new (rw c.key.ensures.same at c.in_default.ensures) (rw c.key-2.ensures.same at c.test_in_levels.ensures)
+    tests_in_runs v.mem.now (sealed_now v.sealed) (places v.levels.now) v.area c.args.guard.now c.args.at c.test_in_levels.result old new (rw c.key-key.ensures.same at c.in_default.ensures) (rw c.key-key.ensures.same at c.test_in_levels.ensures)
