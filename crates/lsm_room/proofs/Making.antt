@@ -147,12 +147,18 @@ finds_room area levels live job keys outputs fit makes sectors from cuts images 
     let most = makes sectors from cuts images stand c made in
     record { total = outputs.blocks; largest = outputs.largest; fit = fit; each = most.each; all = most.all }
 
--- what is chosen does, where it is placed
+-- what is chosen makes no more than is reckoned of the pick
+pub chosen_makes : (levels : Levels) (live : Bool) (jobs : List Job) (choice : Choice) (pick : Job) (keys : List Bytes) (outputs : Outputs) → AreRuns levels → Some pick ≡ chosen levels jobs choice
+    → (outputs.blocks < 4294967296 → IsHeld levels (is_bottom levels pick) pick → is_flush pick ≡ false → MakesAtMost levels live pick keys outputs.blocks outputs.largest)
+    → outputs.blocks < 4294967296 → (job : Job) → chosen levels jobs choice ≡ Some job → MakesAtMost levels live job keys outputs.blocks outputs.largest
+chosen_makes levels live jobs choice pick keys outputs runs is makes low job chosen_is =
+    let may = choice_law levels jobs choice pick runs (sym is) in
+    let same : pick ≡ job = some_job pick job (is ∙ chosen_is) in
+    subst (λ (j : Job). MakesAtMost levels live j keys outputs.blocks outputs.largest) same (makes low may.held (chosen_merges levels jobs choice pick (sym is)))
+
+-- so it finds room, where it is placed
 pub chosen_finds_room : (area : Area) (levels : Levels) (live : Bool) (jobs : List Job) (choice : Choice) (pick : Job) (keys : List Bytes) (outputs : Outputs) → AreRuns levels → Some pick ≡ chosen levels jobs choice
     → (outputs.blocks < 4294967296 → IsHeld levels (is_bottom levels pick) pick → is_flush pick ≡ false → MakesAtMost levels live pick keys outputs.blocks outputs.largest)
     → outputs.blocks < 4294967296 → SurelyFit area outputs.blocks outputs.largest → (job : Job) → chosen levels jobs choice ≡ Some job → FindsRoom area levels live job keys
 chosen_finds_room area levels live jobs choice pick keys outputs runs is makes low fit job chosen_is =
-    let may = choice_law levels jobs choice pick runs (sym is) in
-    let same : pick ≡ job = some_job pick job (is ∙ chosen_is) in
-    subst (λ (j : Job). FindsRoom area levels live j keys) same
-    (finds_room area levels live pick keys outputs fit (makes low may.held (chosen_merges levels jobs choice pick (sym is))))
+    finds_room area levels live job keys outputs fit (chosen_makes levels live jobs choice pick keys outputs runs is makes low job chosen_is)

@@ -18,8 +18,9 @@ use Rattle.lsm_table.proofs.Blocks.{laid_fits}
 use Rattle.lsm_table.proofs.Orders.{Before, front_pairs, later_pairs}
 use Rattle.lsm_merge.specs.Keeping.{keep}
 use Rattle.lsm_merge.specs.Ranges.{is_within}
-use Rattle.lsm_merge.proofs.OrderTests.{ordered_tested, tested}
-use Rattle.lsm_merge.proofs.RangeLaws.{is_in_order-filter, keep-filter}
+use Rattle.lsm_mem.proofs.OrderTests.{ordered_tested, tested}
+use Rattle.lsm_merge.proofs.RangeLaws.{keep-filter}
+use Rattle.lsm_mem.proofs.FirstLaws.{is_in_order-filter}
 use Rattle.lsm_levels.specs.Tables.{Table, at_most, is_below, versions_of}
 use Rattle.lsm_levels.proofs.CursorStored.{all_below, keys_behind}
 use Rattle.lsm_levels.proofs.KeyOrder.{at_most_trans, at_most_turned, below_is, below_not}

@@ -190,8 +190,8 @@ impl<'a, H: HeldJobs, A: Allocator> Standing<'a, H, A> {
     pub fn admits(&self, memory: InMemory, puts: bool) -> bool
         ensures crowded { result ≡ false → memory.before.entries ≡ 0 → memory.waiting ≡ no_size → puts ≡ true → IsCrowded (taken_blocks self.now.levels.now) (free_count self.now.extents.now) (table_count self.now.levels.now) (blocks_for memory.after.bytes memory.after.entries) }
 
-        // Where puts are taken, a hundred blocks stay free beside the flushes.
-        ensures room { result ≡ true → puts ≡ true → FlushesLeave 100 (free_count self.now.extents.now) self.now.live memory.waiting memory.after }
+        // Whatever is admitted, a hundred blocks stay free beside the flushes.
+        ensures room { result ≡ true → FlushesLeave 100 (free_count self.now.extents.now) self.now.live memory.waiting memory.after }
     {
         let after = counted(memory.after, self.live);
         let taken = self.taken();
@@ -200,7 +200,7 @@ impl<'a, H: HeldJobs, A: Allocator> Standing<'a, H, A> {
             return false;
         }
         if !puts && charge_of(after) == 0 {
-            return self.admits_deletes(after, reserve)
+            return self.admits_deletes(memory, reserve)
                 || (self.has_few_runs() && self.has_room_for(memory, taken));
         }
         (memory.before.entries == 0 || delete_blocks(after) <= DELETE_BLOCKS)
@@ -285,10 +285,12 @@ impl<'a, H: HeldJobs, A: Allocator> Standing<'a, H, A> {
             <= self.free()
     }
 
-    fn admits_deletes(&self, memory: MemSize, reserve: Reserve) -> bool {
-        let blocks = delete_blocks(memory);
-        blocks <= DELETE_BLOCKS
-            && blocks.saturating_add(reserve.for_steps()) <= self.free()
+    // Whether the memtable may have deletes alone: they are few, and the flushes leave what steps want.
+    fn admits_deletes(&self, memory: InMemory, reserve: Reserve) -> bool
+        ensures { result ≡ true → FlushesLeave 100 (free_count self.now.extents.now) self.now.live memory.waiting memory.after }
+    {
+        self.leaves_flushes(memory, reserve)
+            && delete_blocks(memory.after) <= DELETE_BLOCKS
             && self.tables() <= TABLES_FOR_DELETES
             && self.has_few_runs()
     }

@@ -1,6 +1,6 @@
 //! What a choice is made over.
 
-ghost use Rattle.std.specs.Prelude.{◌≡◌, ◌+◌, ◌≤◌, ◌<◌, [], true, false, length, is_some, Some};
+ghost use Rattle.std.specs.Prelude.{◌≡◌, ◌+◌, ◌≤◌, ◌<◌, [], true, false, length, is_some, Some, IfSome};
 ghost use Prim.Native.Nat.{min};
 ghost use Rattle.lsm_extent.specs.Area.{free_count};
 ghost use Rattle.lsm_extent.specs.Gaps.{SurelyFit};
@@ -120,8 +120,8 @@ impl<'a, H: HeldJobs, A: Allocator> Standing<'a, H, A> {
         all < u64::MAX && all.saturating_sub(gone).saturating_add(outputs.tables) <= MOST_TABLES
     }
 
-    // Whether images of so many blocks are sure to find room, whatever the size of each.
-    fn has_room(&self, outputs: Outputs) -> bool
+    /// Whether outputs of so many blocks are sure to find room, however many tables there are.
+    pub fn has_room(&self, outputs: Outputs) -> bool
         ensures room { result ≡ true → SurelyFit self.now.extents.now outputs.blocks outputs.largest }
         ensures few { result ≡ true → outputs.blocks < 4294967296 }
     {
@@ -141,12 +141,16 @@ impl<'a, H: HeldJobs, A: Allocator> Standing<'a, H, A> {
         self.levels.choose(choice, self.held).is_some()
     }
 
-    /// What the outputs of a choice take at most, where it may be taken.
-    pub(crate) fn outputs(&self, choice: Choice) -> Option<Outputs>
-        ensures { is_some result ≡ may_take self.now.levels.now (H.jobs self.now.held.now) choice }
+    /// What the outputs of a choice take at most, undivided, where it may be taken.
+    pub fn outputs(&self, choice: Choice) -> Option<Outputs>
+        ensures may { is_some result ≡ may_take self.now.levels.now (H.jobs self.now.held.now) choice }
+        ensures takes { IfSome result (λ o. o.blocks < 4294967296 → (job : Job) → chosen self.now.levels.now (H.jobs self.now.held.now) choice ≡ Some job → MakesAtMost self.now.levels.now self.now.live job [] o.blocks o.largest) }
     {
-        let job = self.levels.choose(choice, self.held)?;
-        Some(outputs_of(self.levels, &job, self.live))
+        let _runs = self.levels.runs();
+        match self.levels.choose(choice, self.held) {
+            Some(job) => Some(outputs_of(self.levels, &job, self.live)),
+            None => None,
+        }
     }
 
     /// Whether a choice may be taken, and its outputs, undivided, are sure to find room. Several tables take in so many blocks at most.

@@ -59,7 +59,7 @@ first done old mid new u finished tried rest = record { flushed = mid; upkeep = 
 pub first-behind : (old mid new : StoreView) → FlushesFirst old mid → IsUpkept mid new → FlushesFirst old new
 first-behind old mid new f u = record { flushed = f.flushed; upkeep = f.upkeep; flushes = f.flushes; rest = then f.flushed mid new f.rest u }
 
--- a flush behind others is not the first, unless there were none before
+-- a flush after others is not the first, unless there were none before
 pub first-again : (n : ℕ) (done : Bool) (old mid new : StoreView) → ((n ≡ 0) × (mid ≡ old)) ⊎ FlushesFirst old mid → IsUpkept mid new → (done ≡ true → IsIdle new) → (done ≡ false → TriesNext mid new)
     → FlushesFirst old new
 first-again n done old mid new (inl (none, same)) u finished tried =

@@ -8,7 +8,7 @@ use Rattle.lsm_store.specs.Working.{Works}
 use Rattle.lsm_upkeep.specs.Finishing.{HasLeft, IsFinished, IsGivenUp, DoesNotGoThrough, IsOffered, IsReadWhole, IsStuck, IsUndone, IsUnfinished, IsUnmerged, IsUnread, LeavesBlocksEachTime, Taken}
 use Rattle.lsm_upkeep.specs.Upkeep.{AreDone, FinishesJobs}
 
--- what stands where nothing was done, behind one another, and at each piece of work
+-- what stands where nothing was done, after one another, and at each piece of work
 pub record Goes (R : StoreView → StoreView → Type 0) : Type 0 where
   pub stays : (old new : StoreView) → new ≡ old → R old new
   pub onward : (old mid new : StoreView) → R old mid → R mid new → R old new

@@ -2,6 +2,7 @@ pub mod FinishingLaws
 pub mod FlushingLaws
 pub mod Jobs
 pub mod KeptMaps
+pub mod Lacks
 pub mod Upkept
 pub mod WritingLaws
 pub mod RoomLaws

@@ -14,7 +14,7 @@ use Rattle.lsm_room.specs.Flushes.{FlushesLeave}
 use Rattle.lsm_store.specs.Backing.{StoreView}
 use Rattle.lsm_upkeep.specs.Flushing.{BeginsLog, BeginsLogAmid}
 use Rattle.lsm_upkeep.specs.Steps.{IsUpkept}
-use Rattle.lsm_upkeep.specs.Writing.{HasRoomFor, IsCrowdedIn, IsWithin, has_puts, is_live, wants_room}
+use Rattle.lsm_upkeep.specs.Writing.{HasRoom, HasRoomFor, IsCrowdedIn, IsWithin, has_puts, is_live, wants_room}
 use Rattle.lsm_upkeep.proofs.Upkept.{then}
 
 -- what a size covers, a larger one covers
@@ -47,11 +47,20 @@ pub leave_more : (spare free : ℕ) (live : Bool) (waiting most_waiting memory m
 leave_more spare free live waiting most_waiting memory most less also leaves old versions covers covers_also =
     leaves old versions (covers_more old waiting most_waiting less covers) (covers_more versions memory most also covers_also)
 
--- a store has room for a batch where so much is left of the sizes that are reckoned
+-- a store has room for a batch where the reckoned sizes leave enough
 pub room_for : (batch : List Operation) (s : StoreView) (puts : Bool) (waiting after : MemSize) → puts ≡ wants_room batch s.state → Covers s.work.sealed waiting → ((number : ℕ) → Covers (with_batch number batch s.work.memory) after)
     → (puts ≡ true → FlushesLeave 100 (free_count s.work.area) (is_live s.state) waiting after) → HasRoomFor batch s
 room_for batch s puts waiting after is covers covers_also leaves runs wants number =
     leaves (is ∙ wants) s.work.sealed (with_batch number batch s.work.memory) covers (covers_also number)
+
+-- so it has for whatever batch, where so much is left in any case
+pub room_at_once : (batch : List Operation) (s : StoreView) (waiting after : MemSize) → Covers s.work.sealed waiting → ((number : ℕ) → Covers (with_batch number batch s.work.memory) after)
+    → FlushesLeave 100 (free_count s.work.area) (is_live s.state) waiting after → HasRoom batch s
+room_at_once batch s waiting after covers covers_also leaves runs number = leaves s.work.sealed (with_batch number batch s.work.memory) covers (covers_also number)
+
+pub room_for_any : (batch : List Operation) (s : StoreView) (waiting after : MemSize) → Covers s.work.sealed waiting → ((number : ℕ) → Covers (with_batch number batch s.work.memory) after)
+    → FlushesLeave 100 (free_count s.work.area) (is_live s.state) waiting after → HasRoomFor batch s
+room_for_any batch s waiting after covers covers_also leaves runs wants = room_at_once batch s waiting after covers covers_also leaves runs
 
 -- where a batch wanted no room before upkeep, it wants none then
 pub room_unwanted : (batch : List Operation) (old new : StoreView) (puts : Bool) → puts ≡ wants_room batch old.state → puts ≡ false → IsUpkept old new → HasRoomFor batch new

@@ -15,7 +15,7 @@ use Rattle.lsm_upkeep.specs.Upkeep.{IsEasedIf, IsRotatedAt, OpensLog, Settles}
 use Rattle.lsm_upkeep.proofs.Jobs.{Goes, jobs, offered, taken, undone, unmerged}
 use Rattle.lsm_upkeep.proofs.KeptMaps.{onward, rotate_keeps, stays as stays_same, works_keep}
 
--- steps behind steps
+-- steps after steps
 joined : (m n : ℕ) (old mid new : StoreView) → UpkeepSteps m old mid → UpkeepSteps n mid new → (k : ℕ) × UpkeepSteps k old new
 joined zero n old mid new e more = (n, subst (λ (s : StoreView). UpkeepSteps n s new) e more)
 joined (suc m) n old mid new (next, step, reply, is, serves, first) more =

@@ -16,12 +16,12 @@ IsRefused piece old new = (e : Refusal) × Works old piece (Refused e) new
 
 -- ---- pieces that are done until no block is left
 
--- so many times a piece of work left some blocks
+-- n times a piece of work left some blocks
 abbrev pub LeavesBlocksEachTime : Work → ℕ → StoreView → StoreView → Type 0
 LeavesBlocksEachTime piece zero old new = new ≡ old
 LeavesBlocksEachTime piece (suc n) old new = (mid : StoreView) × LeavesBlocksEachTime piece n old mid × (left : ℕ) × Works mid piece (Number (suc left)) new
 
--- A piece of work was done again and again, as long as it left some blocks, and the last time it left so many.
+-- A piece of work was done again and again, as long as it left some blocks, and the last time it left `left`.
 pub record HasLeft (piece : Work) (left : ℕ) (old new : StoreView) : Type 0 where
   pub count : ℕ
   pub last : StoreView

@@ -1,4 +1,4 @@
--- A flush that waits is finished first, and a log with room is opened behind it.
+-- A flush that waits is finished first, and a log with room is opened after it.
 use Rattle.std.specs.Prelude.{◌≡◌, ◌⊎◌, zero, true, false, is_some, None}
 use Rattle.lsm_store.specs.Backing.{StoreView}
 use Rattle.lsm_machine.specs.Calls.{Reply, Rotate, LogRoom, Number}
@@ -11,7 +11,7 @@ use Rattle.lsm_upkeep.specs.Steps.{IsUpkept}
 abbrev pub IsIdle : StoreView → Type 0
 IsIdle s = (is_some s.state.stopped ≡ true) ⊎ (are_waiting s.state ≡ false)
 
--- The job that comes next, which is the flush where one waits, was asked for, and finished or not. Before and behind that was upkeep.
+-- The job that comes next, which is the flush where one waits, was asked for, and finished or not. Before and after that was upkeep.
 pub record TriesNext (old new : StoreView) : Type 0 where
   pub ready : StoreView
   pub tried : StoreView
@@ -26,7 +26,7 @@ pub record FlushesFirst (old new : StoreView) : Type 0 where
   pub flushes : IsIdle flushed ⊎ TriesNext old flushed
   pub rest : IsUpkept flushed new
 
--- The store was rotated once no flush waited, which may have been refused; behind that was upkeep.
+-- The store was rotated once no flush waited, which may have been refused; after that was upkeep.
 pub record Rotates (old new : StoreView) : Type 0 where
   pub idle : IsIdle old
   pub rotated : StoreView

@@ -3,6 +3,7 @@ pub mod Finishing
 pub mod Flushing
 pub mod Keeping
 pub mod Lacking
+pub mod Readying
 pub mod Steps
 pub mod Upkeep
 pub mod Walking

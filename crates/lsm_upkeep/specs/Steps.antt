@@ -12,7 +12,7 @@ IsUpkeepStep (Worked piece) reply = Unit {0}
 IsUpkeepStep (Called Rotate) reply = Unit {0}
 IsUpkeepStep (Called other) reply = ⊥
 
--- so many of them, each served by the store that the one before it left
+-- n of them, each served by the store that the one before it left
 abbrev pub UpkeepSteps : ℕ → StoreView → StoreView → Type 0
 UpkeepSteps zero old new = new ≡ old
 UpkeepSteps (suc n) old new = (mid : StoreView) × (step : Step) × (reply : Reply) × IsUpkeepStep step reply × ServesStep old step reply mid × UpkeepSteps n mid new

@@ -11,12 +11,12 @@ use Rattle.lsm_upkeep.specs.Steps.{IsUpkept}
 
 -- ---- jobs, one after another
 
--- so many jobs were finished, each the one that came next
+-- n jobs were finished, each the one that came next
 abbrev pub AreDone : ℕ → StoreView → StoreView → Type 0
 AreDone zero old new = new ≡ old
 AreDone (suc n) old new = (mid : StoreView) × AreDone n old mid × Taken IsFinished None mid new
 
--- the jobs that came next were finished, until one was not, or so many
+-- the jobs that came next were finished, until one was not, or `most`
 pub record FinishesJobs (most : ℕ) (old new : StoreView) : Type 0 where
   pub count : ℕ
   pub last : StoreView
@@ -41,7 +41,7 @@ pub record OpensLog (old new : StoreView) : Type 0 where
 abbrev pub Settles : StoreView → StoreView → Type 0
 Settles old new = (mid : StoreView) × FinishesJobs 64 old mid × OpensLog mid new
 
--- whether room is scarce in a store that runs: less than half of the blocks is free, or there are more tables than so many
+-- whether room is scarce in a store that runs: less than half of the blocks is free, or there are more tables than `most_tables`
 abbrev pub is_scarce : ℕ → StoreView → Bool
 is_scarce most_tables s = ltb (blocks_in_no_table s.work) (taken_blocks s.work.levels) || ltb most_tables (table_count s.work.levels)
 

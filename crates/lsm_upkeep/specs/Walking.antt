@@ -26,7 +26,7 @@ abbrev pub Walks : WalkView → Option Page → WalkView → StoreView → Store
 Walks old (Some page) new before after = GoesOn old page new before after
 Walks old None new before after = (old.from ≡ None) × (new ≡ old) × (after ≡ before)
 
--- a page was refused, or there was no memory for the key behind it; the walk stays
+-- a page was refused, or there was no memory for the key after it; the walk stays
 pub record IsHeld (old : WalkView) (refusal : Refusal) (new : WalkView) (before after : StoreView) : Type 0 where
   pub from : Bytes
   pub begins : old.from ≡ Some from

@@ -41,12 +41,12 @@ is_live s = nat_lt 0 (length s.snapshots)
 abbrev pub wants_room : List Operation → State → Bool
 wants_room batch s = has_puts batch || is_live s
 
--- what is told in place of a reply: of a log that has no room, that there is none
+-- what is told in place of a reply: NoSpace for LogFull
 abbrev pub without_log_full : Reply → Reply
 without_log_full (Refused LogFull) = Refused NoSpace
 without_log_full other = other
 
--- Few blocks are free beside the tables for so many more, or the tables are many.
+-- Few blocks are free besides the tables for this number more, or the tables are many.
 abbrev pub IsCrowdedIn : WorkView → ℕ → Type 0
 IsCrowdedIn w blocks = IsCrowded (taken_blocks w.levels) (free_count w.area) (table_count w.levels) blocks
 
@@ -64,7 +64,11 @@ pub record IsWithin (size most : MemSize) : Type 0 where
 abbrev pub FlushesFit : List Operation → StoreView → Type 0
 FlushesFit batch s = (number : ℕ) → LeaveFree 100 (free_count s.work.area) (is_live s.state) s.work.sealed (with_batch number batch s.work.memory)
 
--- so it is in a store that runs, if a batch puts a value or a snapshot is live
+-- so it is in a store that runs
+abbrev pub HasRoom : List Operation → StoreView → Type 0
+HasRoom batch s = is_some s.state.stopped ≡ false → FlushesFit batch s
+
+-- and if a batch puts a value or a snapshot is live
 abbrev pub HasRoomFor : List Operation → StoreView → Type 0
 HasRoomFor batch s = is_some s.state.stopped ≡ false → wants_room batch s.state ≡ true → FlushesFit batch s
 

@@ -11,21 +11,21 @@ use lsm_mem::MemSize;
 use lsm_store::Store;
 use std::marker::Model;
 
-/// So many more entries are allowed at once.
+/// This number of further entries is allowed at once.
 const ENTRIES: u64 = 512;
 
-/// So many more bytes of entries are allowed at once.
+/// This number of further bytes of entries is allowed at once.
 const BYTES: u64 = 131_072;
 
-/// How large memory may become before a store is asked again whether there is room: to ask goes over all tables, and so many batches
-/// needn't. It counts as long as the tables, the free blocks and the snapshots are those of which it was asked, and no more waits for a
-/// flush.
+/// How large memory may become before a store is asked again whether there is room: to ask goes over all tables, which most batches
+/// then needn't. It holds as long as the tables, the free blocks and the snapshots are those of which it was asked, and no more waits
+/// for a flush.
 #[derive(Clone, Copy)]
 pub(crate) struct Allowance {
     granted: Option<Grant>,
 }
 
-/// So much was granted of a store that was asked.
+/// What a store that was asked granted.
 #[derive(Clone, Copy)]
 struct Grant {
     most: MemSize,
@@ -77,7 +77,7 @@ impl Asked {
 }
 
 impl Grant {
-    // That of a store for what is demanded, and so much more.
+    // What a store grants for a demand, with `ENTRIES` entries of `BYTES` bytes more.
     fn of<D: Device>(store: &Store<D>, asked: Asked, demand: &Demand) -> Option<Grant>
         requires free { asked.free_blocks ≡ free_count store.now.work.area }
         requires live { asked.live ≡ is_live store.now.state }
@@ -110,7 +110,7 @@ impl Allowance {
 
     /// Whether a demand is admitted: it is allowed, or the store is asked. Then more may be allowed.
     pub fn admits<D: Device>(&mut self, store: &Store<D>, demand: &Demand) -> bool
-        ensures { result ≡ true → demand.now.puts ≡ true → FlushesLeave 100 (free_count store.now.work.area) (is_live store.now.state) demand.now.memory.waiting demand.now.memory.after }
+        ensures { result ≡ true → FlushesLeave 100 (free_count store.now.work.area) (is_live store.now.state) demand.now.memory.waiting demand.now.memory.after }
     {
         let asked = Asked::of(store);
         if self.covers(asked, demand) {

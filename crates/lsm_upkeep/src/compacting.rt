@@ -29,7 +29,7 @@ pub(crate) const MOST_STEPS: u32 = 16_384;
 /// waits, and else the merge that the policy chooses, or where that isn't sure to find room a step down. One that can't be finished is
 /// given up.
 ///
-/// What is refused is passed over: the store goes on as it then is, and its map is the same.
+/// Errors are skipped: the store goes on as it then is, and its map is the same.
 pub fn compact<D: Device>(alloc: Global, store: &mut Store<D>, policy: &Policy)
     ensures upkept { IsUpkept store.old store.new }
     ensures flushes { FlushesFirst store.old store.new }
@@ -44,7 +44,7 @@ pub fn compact<D: Device>(alloc: Global, store: &mut Store<D>, policy: &Policy)
     }
 }
 
-// Finishes what the policy wants next. It tells whether it did.
+// Finishes what the policy wants next. Returns whether it did.
 fn finish_wanted<D: Device>(alloc: Global, store: &mut Store<D>, policy: &Policy) -> bool
     ensures { IsUpkept store.old store.new }
 {
@@ -65,7 +65,7 @@ fn finish_merge<D: Device>(alloc: Global, store: &mut Store<D>, choice: Choice) 
 }
 
 /// Brings all tables into the last level, where deletes have nothing more to delete and small tables are joined, by steps of which
-/// each is sure to find room. It tells whether all tables are in the last level then. What is in memory stays there.
+/// each is sure to find room. Returns whether all tables are in the last level then. What is in memory stays there.
 pub fn compact_all<D: Device>(alloc: Global, store: &mut Store<D>) -> bool
     ensures upkept { IsUpkept store.old store.new }
     ensures flushes { FlushesFirst store.old store.new }
@@ -115,8 +115,8 @@ fn is_compacted<D: Device>(store: &Store<D>) -> bool
     }
 }
 
-// Whether no level but the last has a table.
-fn are_in_last<A: Allocator>(levels: &Levels<A>) -> bool
+/// Whether no level but the last has a table.
+pub(crate) fn are_in_last<A: Allocator>(levels: &Levels<A>) -> bool
     ensures { result ≡ are_in_last levels.now }
 {
     let [level_1, level_2, level_3, _] = levels.deeper() else {

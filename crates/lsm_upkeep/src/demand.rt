@@ -61,7 +61,7 @@ impl Demand {
     /// Whether it is admitted.
     pub(crate) fn is_met<D: Device>(&self, store: &Store<D>) -> bool
         ensures crowded { result ≡ false → self.now.memory.before.entries ≡ 0 → self.now.memory.waiting ≡ no_size → self.now.puts ≡ true → IsCrowdedIn store.now.work (blocks_for self.now.memory.after.bytes self.now.memory.after.entries) }
-        ensures room { result ≡ true → self.now.puts ≡ true → FlushesLeave 100 (free_count store.now.work.area) (is_live store.now.state) self.now.memory.waiting self.now.memory.after }
+        ensures room { result ≡ true → FlushesLeave 100 (free_count store.now.work.area) (is_live store.now.state) self.now.memory.waiting self.now.memory.after }
     {
         standing(store).admits(self.memory, self.puts)
     }
@@ -130,8 +130,8 @@ impl Demand {
     }
 }
 
-// How large what waits for its flush is at most.
-fn waiting<D: Device>(store: &Store<D>) -> MemSize
+/// How large what waits for its flush is at most.
+pub(crate) fn waiting<D: Device>(store: &Store<D>) -> MemSize
     ensures covers { Covers store.now.work.sealed result }
     ensures none { store.now.work.sealed ≡ [] → result ≡ no_size }
 {

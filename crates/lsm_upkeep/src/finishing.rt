@@ -12,7 +12,7 @@ use lsm_room::Step;
 use lsm_store::{Store, TakenJob};
 use std::alloc::Global;
 
-/// Takes the job that comes next and finishes it. It tells whether it did.
+/// Takes the job that comes next and finishes it. Returns whether it did.
 pub(crate) fn finish_next<D: Device>(alloc: Global, store: &mut Store<D>) -> bool
     ensures finished { result ≡ true → Taken IsFinished None store.old store.new }
     ensures undone { result ≡ false → IsUndone None store.old store.new }
@@ -23,7 +23,7 @@ pub(crate) fn finish_next<D: Device>(alloc: Global, store: &mut Store<D>) -> boo
     }
 }
 
-/// Takes a step and finishes it. It tells whether it did.
+/// Takes a step and finishes it. Returns whether it did.
 pub(crate) fn finish_step<D: Device>(alloc: Global, store: &mut Store<D>, step: Step) -> bool
     ensures finished { result ≡ true → Taken IsFinished (Some step.choice) store.old store.new }
     ensures undone { result ≡ false → IsUndone (Some step.choice) store.old store.new }

@@ -12,16 +12,16 @@ use lsm_device::Device;
 use lsm_store::Store;
 use std::alloc::Global;
 
-/// A flush is tried so often at most.
+/// The most times that a flush is tried.
 pub(crate) const MOST_TRIES: u32 = 60;
 
-/// From so many runs of level 0 on they go down before a flush.
+/// From this number of runs of level 0 on they go down before a flush.
 pub(crate) const MANY_RUNS: usize = 11;
 
 /// The runs that level 0 has at most.
 pub(crate) const MOST_RUNS: usize = 12;
 
-/// Finishes the flush that waits, if one does. It tells whether none waits then.
+/// Finishes the flush that waits, if one does. Returns whether none waits then.
 pub(crate) fn flush<D: Device>(alloc: Global, store: &mut Store<D>) -> bool
     ensures upkept { IsUpkept store.old store.new }
     ensures finished { result ≡ true → IsIdle store.new }
@@ -45,7 +45,7 @@ pub(crate) fn is_waiting<D: Device>(store: &Store<D>) -> bool
     !store.is_stopped() && store.is_waiting()
 }
 
-// Tries to finish the job that comes next, and makes room where it can't be. It tells whether it did one of both.
+// Tries to finish the job that comes next, and makes room where it can't be. Returns whether it did one of both.
 fn try_next<D: Device>(alloc: Global, store: &mut Store<D>) -> bool
     ensures { TriesNext store.old store.new }
 {
@@ -66,7 +66,7 @@ fn push_runs<D: Device>(alloc: Global, store: &mut Store<D>)
 }
 
 // Takes a step that makes room for a flush: where level 0 is full its oldest run goes down, and else a table is moved, or goes down, or
-// neighbours are joined. It tells whether it did.
+// neighbours are joined. Returns whether it did.
 fn make_room<D: Device>(alloc: Global, store: &mut Store<D>) -> bool
     ensures { IsUpkept store.old store.new }
 {

@@ -15,7 +15,7 @@ use std::alloc::Global;
 /// Settles a store, and compacts it where room is scarce then, by the policy: less than half of its blocks are free, or there are
 /// too many tables.
 ///
-/// What is refused is passed over: the store goes on as it then is, and its map is the same.
+/// Errors are skipped: the store goes on as it then is, and its map is the same.
 pub fn keep_up<D: Device>(alloc: Global, store: &mut Store<D>, policy: &Policy)
     ensures settles { KeepsUp policy.now.most_tables store.old store.new }
     ensures upkept { IsUpkept store.old store.new }

@@ -1,12 +1,15 @@
 //! What a store lacks that is not compacted to the end.
 
-ghost use Rattle.std.specs.Prelude.{◌≡◌, true, IfSome};
+ghost use Rattle.std.specs.Prelude.{◌≡◌, true, IfOk, IfSome};
 ghost use Rattle.lsm_machine.specs.State.{are_waiting};
-ghost use Rattle.lsm_upkeep.specs.Lacking.{IsLacking, IsShortage};
+ghost use Rattle.lsm_upkeep.specs.Lacking.{AreReckoned, IsAdvised, IsLacking, IsShortage};
 
+use crate::compacting::are_in_last;
+use crate::demand::waiting;
 use crate::flushing::{MOST_RUNS, is_waiting};
 use crate::stepping::standing;
 use lsm_device::Device;
+use lsm_levels::{Choice, HeldJobs};
 use lsm_room::{Advice, Outputs, flush_outputs};
 use lsm_store::Store;
 use std::alloc::{AllocError, Global};
@@ -34,8 +37,8 @@ pub enum Lack {
     Flush,
     /// The next step isn't sure to find room.
     StepWants(Shortage),
-    /// The next step was not finished for another reason: memory was refused, a table could not be read, or none is sure to find
-    /// room, though its first part is.
+    /// A step may be taken that finds room, and was not finished: memory was refused, a table could not be read, or there would be too
+    /// many tables. Or a merge that holds a slot stands in the way.
     Step,
     /// There is no memory to look for the next step.
     Memory,
@@ -93,13 +96,13 @@ fn flush_lack<D: Device>(store: &Store<D>) -> Lack
     requires { are_waiting store.now.state ≡ true }
     ensures { IsLacking store.now result }
 {
-    let Some(memory) = store.sealed_size() else {
+    let wanted = flush_outputs(waiting(store), store.has_snapshots());
+    if standing(store).has_room(wanted) {
         return Lack::Flush;
-    };
-    let wanted = flush_outputs(memory, store.has_snapshots());
-    match shortage_of(store, wanted.blocks, wanted.largest) {
+    }
+    match shortage_of(store, wanted) {
         Some(shortage) => Lack::FlushWants(shortage),
-        None => Lack::Flush,
+        None => Lack::Memory,
     }
 }
 
@@ -108,36 +111,77 @@ fn step_lack<D: Device>(alloc: Global, store: &Store<D>) -> Lack
     ensures { IsLacking store.now result }
 {
     match next_advice(alloc, store) {
-        Ok(Advice::Lacks { wanted, .. }) => unsure_lack(store, wanted),
-        Ok(Advice::Take(_) | Advice::Try(_) | Advice::Nothing) => Lack::Step,
+        Ok(advice) => lack_of_advice(store, advice),
         Err(_) => Lack::Memory,
     }
 }
 
-// What a step lacks that isn't sure to find room.
-fn unsure_lack<D: Device>(store: &Store<D>, wanted: Outputs) -> Lack
+// What a step lacks that was advised, or the one for which blocks lack.
+fn lack_of_advice<D: Device>(store: &Store<D>, advice: Advice) -> Lack
+    requires { IsAdvised store.now advice }
     ensures { IsLacking store.now result }
 {
-    match shortage_of(store, wanted.blocks, wanted.largest) {
-        Some(shortage) => Lack::StepWants(shortage),
-        None => Lack::Step,
+    match advice {
+        Advice::Take(_step) => Lack::Step,
+        Advice::Try(step) => lack_of_choice(store, step.choice),
+        Advice::Lacks { choice, wanted } => match shortage_of(store, wanted) {
+            Some(shortage) => Lack::StepWants(shortage),
+            None => lack_of_choice(store, choice),
+        },
+        Advice::Nothing => lack_at_rest(store),
     }
+}
+
+// What a step lacks that isn't known to find room as it was advised.
+fn lack_of_choice<D: Device>(store: &Store<D>, choice: Choice) -> Lack
+    ensures { IsLacking store.now result }
+{
+    match standing(store).outputs(choice) {
+        Some(wanted) => lack_of_outputs(store, wanted),
+        None => lack_at_rest(store),
+    }
+}
+
+// What a choice lacks that may be taken and makes so much, undivided.
+fn lack_of_outputs<D: Device>(store: &Store<D>, wanted: Outputs) -> Lack
+    requires { AreReckoned store.now wanted }
+    ensures { IsLacking store.now result }
+{
+    if standing(store).has_room(wanted) {
+        return Lack::Step;
+    }
+    match shortage_of(store, wanted) {
+        Some(shortage) => Lack::StepWants(shortage),
+        None => Lack::Memory,
+    }
+}
+
+// What a store lacks for which no step was found: nothing, if there is none, or one has to wait for a merge.
+fn lack_at_rest<D: Device>(store: &Store<D>) -> Lack
+    ensures { IsLacking store.now result }
+{
+    if are_in_last(store.levels()) || store.jobs().has_merge() {
+        return Lack::Step;
+    }
+    Lack::Memory
 }
 
 // The next step: of those that make room for a flush where one waits, and else of those that bring all tables into the last of the levels.
-fn next_advice<D: Device>(alloc: Global, store: &Store<D>) -> Result<Advice, AllocError> {
+fn next_advice<D: Device>(alloc: Global, store: &Store<D>) -> Result<Advice, AllocError>
+    ensures { IfOk result (IsAdvised store.now) }
+{
     if is_waiting(store) {
-        standing(store).step_down(&alloc)
-    } else {
-        standing(store).step_down_to(&alloc, 4)
+        return Ok(standing(store).step_down(&alloc)?);
     }
+    Ok(standing(store).step_down_to(&alloc, 4)?)
 }
 
-// So many blocks, none of whose images has more than the largest, where they aren't sure to find room.
-fn shortage_of<D: Device>(store: &Store<D>, wanted: u64, largest: u64) -> Option<Shortage>
+// The blocks of outputs, where they aren't sure to find room.
+fn shortage_of<D: Device>(store: &Store<D>, outputs: Outputs) -> Option<Shortage>
     ensures { IfSome result (IsShortage store.now.work.area) }
 {
-    let together = u32::try_from(largest.min(wanted)).unwrap_or(u32::MAX);
+    let wanted = outputs.blocks;
+    let together = u32::try_from(outputs.largest.min(wanted)).unwrap_or(u32::MAX);
     let extents = store.extents();
     if extents.surely_places(wanted, together) {
         return None;

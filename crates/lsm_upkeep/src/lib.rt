@@ -15,11 +15,11 @@
 //! | [`lack_of`] | what a store lacks that `compact_all` could not bring to the end |
 //! | [`keep_up`] | settles, and compacts where room is scarce |
 //!
-//! None of them but `write` changes the map, a snapshot, or the count of batches. What is refused is passed over: the job that it stops
-//! is given up, and the next call takes it anew.
+//! None of them but `write` changes the map, a snapshot, or the count of batches. An error of theirs is skipped: the flush or
+//! compaction that it stops is given up, and the next call takes it anew.
 //!
 //! What is proved of room: a put is refused only by a store that is crowded once its memtable is flushed and no flush waits (`LacksRoom`);
-//! behind each put that is committed the flushes of all that is in memory leave a hundred blocks free (`HasRoomFor`); and a step that
+//! after each put that is committed the flushes of all that is in memory leave a hundred blocks free (`HasRoomFor`); and a step that
 //! `lsm_room` advises to take finds room. That the steps always come to an end with room for the next batch is tested with random stores,
 //! and not proved. All of it is about stores that only this crate writes: commits past it may fill a store so far that no step finds room.
 //!

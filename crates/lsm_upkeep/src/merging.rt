@@ -7,10 +7,10 @@ use lsm_device::Device;
 use lsm_store::Store;
 use std::alloc::Global;
 
-/// So many pieces are done before a write: they read, or write, at most 64 blocks.
+/// This number of pieces is done before a write: they read, or write, at most 64 blocks.
 const PIECES_BEFORE_WRITE: u32 = 8;
 
-/// A merge has fewer pieces than so many: it takes in at most 1,024 blocks, and brings out at most twice as many and some.
+/// A merge has fewer pieces than this: it takes in at most 1,024 blocks, and writes at most twice as many and some.
 const MOST_PIECES: u32 = 4_096;
 
 /// Does some pieces of the merge of a number, up to one that builds its result or installs it, and tells what became of it.
@@ -20,7 +20,7 @@ pub(crate) fn do_some_pieces<D: Device>(alloc: Global, store: &mut Store<D>, job
     do_pieces(alloc, store, job, PIECES_BEFORE_WRITE)
 }
 
-/// Finishes the merge of a number, if a slot has it. It tells whether a piece was left of it.
+/// Finishes the merge of a number, if a slot has it. Returns whether a piece was left of it.
 pub(crate) fn finish_begun<D: Device>(alloc: Global, store: &mut Store<D>, job: u64) -> bool
     ensures { IsUpkept store.old store.new }
 {

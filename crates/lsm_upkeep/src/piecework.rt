@@ -23,7 +23,7 @@ pub enum PieceDone {
     GivenUp,
 }
 
-/// So many slots hold jobs.
+/// The number of slots for jobs.
 const SLOTS: usize = 4;
 
 /// Does the next piece of the job of this number, if a slot has it: reads at most eight blocks, builds its result, divided at these keys

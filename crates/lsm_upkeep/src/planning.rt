@@ -131,7 +131,7 @@ impl Plan {
         }
     }
 
-    // Another log is opened where no flush waits; behind an opening only where the open one has no room. Then comes its flush.
+    // Another log is opened where no flush waits; after an opening only where the open one has no room. Then comes its flush.
     fn rotate<D: Device>(&mut self, store: &Store<D>) -> Option<Attempt> {
         let has_room = matches!(self.goal, Goal::Opened) && !matches!(store.log_room(), Ok(0));
         if has_room || is_waiting(store) {

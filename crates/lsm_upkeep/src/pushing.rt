@@ -11,13 +11,13 @@ use std::alloc::Global;
 /// The most steps that are taken at once.
 const MOST_STEPS: u32 = 20_000;
 
-/// The most joins that are made behind the last step.
+/// The most joins after the last step.
 const MOST_JOINS: u32 = 200;
 
 /// The most attempts at both: three for each step.
 const MOST_ATTEMPTS: u32 = 60_201;
 
-/// With more tables than so many, neighbours are joined first.
+/// With more tables than this, neighbours are joined first.
 const MANY_TABLES: usize = 780;
 
 /// How far tables were brought down: steps down are taken until none is left, none can be taken, or what is demanded is admitted with
@@ -41,7 +41,7 @@ enum Last {
     Step,
     /// Neighbours were to be joined, since no step could be taken.
     JoinInstead,
-    /// Neighbours were to be joined behind the last step, or are to be: so many times up to now.
+    /// Neighbours were to be joined after the last step, or are to be: this number of times up to now.
     JoinBehind(u32),
 }
 

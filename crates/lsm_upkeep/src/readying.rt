@@ -1,7 +1,8 @@
 //! How far a store was made ready for a batch, for callers that do one piece of work at a time.
 
 ghost use Rattle.std.specs.Prelude.{◌≡◌, true};
-ghost use Rattle.lsm_upkeep.specs.Writing.{HasRoomFor, LacksRoom, wants_room};
+ghost use Rattle.lsm_upkeep.specs.Readying.{is_before_room};
+ghost use Rattle.lsm_upkeep.specs.Writing.{HasRoom, HasRoomFor, LacksRoom, wants_room};
 ghost use Rattle.lsm_upkeep.specs.declared.readying.Verdict.TheVariants.{Commit, Refuse};
 
 use crate::allowing::Allowance;
@@ -17,7 +18,7 @@ use lsm_store::Store;
 pub enum Verdict {
     /// It is to be committed.
     Commit,
-    /// It is to be refused with `NoSpace`.
+    /// It is to fail with `NoSpace`.
     Refuse,
     /// A goal is to be reached, and then it is asked again.
     After(Goal),
@@ -65,12 +66,14 @@ impl AdmitState {
         }
     }
 
-    /// What is to be done next with a batch. It is refused only where it puts values, or a snapshot keeps what it deletes, and with nothing
-    /// in memory only in a store that is crowded.
+    /// What is to be done next with a batch. It fails only where it puts values, or a snapshot keeps what it deletes, and with nothing in
+    /// memory only in a store that is crowded. As long as no log was begun and no table brought down for it, it is committed only with
+    /// room, deletes alone too.
     pub fn next<D: Device>(&mut self, store: &Store<D>, batch: &Batch) -> Verdict
         ensures refused { result ≡ Refuse → wants_room batch.now store.now.state ≡ true }
         ensures crowded { result ≡ Refuse → LacksRoom batch.now store.now }
         ensures room { result ≡ Commit → HasRoomFor batch.now store.now }
+        ensures at_once { is_before_room self.old.done ≡ true → result ≡ Commit → HasRoom batch.now store.now }
     {
         if store.is_stopped() {
             return Verdict::Commit;
@@ -88,7 +91,9 @@ impl AdmitState {
     }
 
     // What is to be done so that a log with room is open.
-    fn log_goal<D: Device>(&mut self, store: &Store<D>) -> Option<Goal> {
+    fn log_goal<D: Device>(&mut self, store: &Store<D>) -> Option<Goal>
+        ensures { is_before_room self.new.done ≡ is_before_room self.old.done }
+    {
         if matches!(self.done, Done::Nothing) {
             self.done = Done::Flush;
             if is_waiting(store) {
@@ -107,6 +112,7 @@ impl AdmitState {
     fn with_log<D: Device>(&mut self, store: &Store<D>, batch: &Batch) -> Verdict
         ensures refused { result ≡ Refuse → ⊥ }
         ensures room { result ≡ Commit → HasRoomFor batch.now store.now }
+        ensures at_once { is_before_room self.old.done ≡ true → result ≡ Commit → HasRoom batch.now store.now }
     {
         let demand = Demand::of(store, batch);
         let has_log = demand.has_log(store);

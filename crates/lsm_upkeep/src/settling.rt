@@ -15,7 +15,7 @@ const MOST_JOBS: u32 = 64;
 /// Takes and finishes jobs, one after another, until none is given, one can't be finished, or 64 are. One that can't is
 /// given up. Then a log is opened where the open one has no room, or none is open.
 ///
-/// What is refused is passed over: the store goes on as it then is, and its map is the same.
+/// Errors are skipped: the store goes on as it then is, and its map is the same.
 pub fn settle<D: Device>(alloc: Global, store: &mut Store<D>)
     ensures settles { Settles store.old store.new }
     ensures upkept { IsUpkept store.old store.new }
@@ -35,7 +35,7 @@ fn finish_jobs<D: Device>(alloc: Global, store: &mut Store<D>)
     }
 }
 
-// After an opening the open log is empty, so that it has room unless there is none.
+// After an opening the open log is empty, so that it has room where one is open.
 fn open_log<D: Device>(store: &mut Store<D>)
     ensures { OpensLog store.old store.new }
 {

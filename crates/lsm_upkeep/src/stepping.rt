@@ -18,9 +18,9 @@ use std::alloc::{AllocError, Global};
 pub enum Went {
     /// It was finished.
     On,
-    /// There is none: all tables are where they are to go.
+    /// There is no step: all tables are where they are to go.
     ToTheEnd,
-    /// None is sure to find room, or it was refused.
+    /// No step is sure to find room, or it was refused.
     Nowhere,
 }
 
@@ -43,6 +43,7 @@ pub enum Way {
 pub(crate) fn standing<D: Device>(store: &Store<D>) -> Standing<'_, Slots>
     ensures levels { result.levels.now ≡ store.now.work.levels }
     ensures extents { result.extents.now ≡ store.now.work.area }
+    ensures held { result.held.now ≡ store.now.work.jobs }
     ensures live { result.live ≡ is_live store.now.state }
 {
     Standing {
@@ -86,7 +87,7 @@ fn advised(alloc: Global, advice: Result<Advice, AllocError>) -> Result<Option<S
     }
 }
 
-// The step that is advised beside those that bring tables down, if there is one.
+// The advised step that brings no table down, if there is one. What isn't sure to find room isn't tried.
 fn aside(advice: Result<Advice, AllocError>) -> Result<Option<Step>, AllocError> {
     match advice? {
         Advice::Take(step) | Advice::Try(step) => Ok(Some(step)),
@@ -124,14 +125,14 @@ pub(crate) fn step_to_the_last<D: Device>(alloc: Global, store: &mut Store<D>) -
     take(alloc, store, Way::ToTheLast)
 }
 
-/// Joins neighbours, where a level has many small tables. It tells whether it did.
+/// Joins neighbours, where a level has many small tables. Returns whether it did.
 pub(crate) fn join<D: Device>(alloc: Global, store: &mut Store<D>) -> bool
     ensures { IsUpkept store.old store.new }
 {
     matches!(take(alloc, store, Way::Together), Went::On)
 }
 
-/// Moves a table, so that free blocks come to lie side by side. It tells whether it did.
+/// Moves a table, so that free blocks come to lie side by side. Returns whether it did.
 pub(crate) fn step_aside<D: Device>(alloc: Global, store: &mut Store<D>) -> bool
     ensures { IsUpkept store.old store.new }
 {

@@ -1,8 +1,8 @@
-//! What is kept beside a store between its writes.
+//! What is kept with a store between its writes.
 
 ghost use Rattle.std.specs.Prelude.{◌≡◌, true};
 ghost use Rattle.lsm_upkeep.specs.Steps.{IsUpkept};
-ghost use Rattle.lsm_upkeep.specs.Writing.{HasRoomFor};
+ghost use Rattle.lsm_upkeep.specs.Writing.{HasRoom};
 
 use crate::allowing::Allowance;
 use crate::compacting::compact;
@@ -18,10 +18,10 @@ use lsm_policy::Policy;
 use lsm_store::Store;
 use std::alloc::Global;
 
-/// Before a write of more bytes than so many a merge goes on more than once.
+/// Before a write of more bytes than this a merge goes on more than once.
 const BYTES_A_TIME: usize = 2_048;
 
-/// What is kept beside a store between its writes: whether merges are due, which one was begun, and how much more may come into memory
+/// What is kept with a store between its writes: whether merges are due, which one was begun, and how much more may come into memory
 /// before the store is asked again whether there is room. Each store has one of its own.
 #[derive(Clone, Copy)]
 pub struct Upkeep {
@@ -82,7 +82,7 @@ impl Upkeep {
         }
     }
 
-    // Does so once and so many times more, as long as a merge is begun.
+    // Does so once and `more` times more, as long as a merge is begun.
     fn go_on_times<D: Device>(&mut self, alloc: Global, store: &mut Store<D>, more: usize)
         ensures { IsUpkept store.old store.new }
     {
@@ -150,7 +150,7 @@ impl Upkeep {
         batch: &Batch,
     ) -> bool
         ensures upkept { IsUpkept store.old store.new }
-        ensures room { result ≡ true → HasRoomFor batch.now store.new }
+        ensures room { result ≡ true → HasRoom batch.now store.new }
     {
         if self.admits_now(store, batch) {
             return true;
@@ -160,7 +160,7 @@ impl Upkeep {
 
     // Whether a batch is admitted as the store stands, and the log has room for it.
     fn admits_now<D: Device>(&mut self, store: &Store<D>, batch: &Batch) -> bool
-        ensures { result ≡ true → HasRoomFor batch.now store.now }
+        ensures { result ≡ true → HasRoom batch.now store.now }
     {
         let demand = Demand::of(store, batch);
         demand.has_log(store) && self.allowance.admits(store, &demand)

@@ -8,10 +8,10 @@ use lsm_room::Step;
 use lsm_store::Store;
 use std::alloc::{AllocError, Global};
 
-/// From so many runs of level 0 on they go down in steps where what the policy chooses isn't sure to find room.
+/// From this number of runs of level 0 on they go down in steps where what the policy chooses isn't sure to find room.
 const SOME_RUNS: usize = 4;
 
-/// From so many on they go down in steps where the policy chooses nothing.
+/// From this number on they go down in steps where the policy chooses nothing.
 const MANY_RUNS: usize = 8;
 
 /// What is to be done next.

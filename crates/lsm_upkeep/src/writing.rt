@@ -11,12 +11,12 @@ use lsm_device::{Device, Refusal};
 use lsm_store::Store;
 use std::alloc::Global;
 
-/// Commits a batch, where guards are given under them, and tells its number. Before that the store is made ready for it
-/// ([`admit`]).
+/// Commits a batch, where guards are given under them, and returns its sequence number. Before that the store is made ready
+/// for it ([`admit`]).
 ///
-/// It is refused as a commit of the store is ([`Store::commit`], [`Store::commit_if`]), and with `NoSpace` where a batch that puts
-/// values finds no room in tables, though all were brought down as far as they go; a batch of deletes is so only where a snapshot
-/// is live. That the log is full is never told: where no log can be opened that has room, it is refused with `NoSpace`.
+/// Fails as a commit of the store ([`Store::commit`], [`Store::commit_if`]), and with `NoSpace` where a batch that puts values
+/// finds no room in tables, though all were merged down as far as they go; a batch of deletes only where a snapshot is live. It
+/// never fails with `LogFull`: where no log with room can be opened, that is `NoSpace`.
 pub fn write<D: Device>(
     alloc: Global,
     store: &mut Store<D>,
@@ -45,7 +45,7 @@ fn commit<D: Device>(
     }
 }
 
-/// What is told of a commit: where the log has no room for it, though it was made ready, that there is none.
+/// The result of a commit, with `NoSpace` for `LogFull`: the log has no room though it was made ready.
 pub fn without_log_full(told: Result<u64, Refusal>) -> Result<u64, Refusal>
     ensures { reply_of Number result ≡ without_log_full (reply_of Number told) }
 {

@@ -47,4 +47,4 @@ returns-clause-refused g c =
     )) c.make_room.ensures.refused
 
 pub returns-then-admits-clause-room : goal.returns-then-admits-clause-room
-returns-then-admits-clause-room g c = c.admits.ensures.room c.if-admits.true
+returns-then-admits-clause-room g c = λ runs wants. c.admits.ensures.room c.if-admits.true runs
