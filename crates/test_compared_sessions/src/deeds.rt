@@ -37,6 +37,6 @@ pub struct Sitting {
     pub past: &'static [Line],
     pub sizes: Sizes,
     pub deeds: &'static [Deed],
-    /// What comes behind the deeds, if something does.
+    /// What comes after the deeds, if anything.
     pub late: Option<Late>,
 }

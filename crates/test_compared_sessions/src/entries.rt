@@ -5,7 +5,7 @@ use lsm_lives::{Call, Step as Made, Work};
 use lsm_trail::{Entry, Trail};
 use std::alloc::{Allocator, Global};
 use test_compared_steps::asking::told_step;
-use test_plain_machine::{Answer, Step};
+use test_compared_steps::plain::{Answer, Step};
 
 /// An entry: who made the step, and what the trail is to tell of its reply.
 #[derive(Clone, Copy)]
@@ -95,7 +95,7 @@ fn is_lent(step: Step, answer: Answer) -> bool {
 }
 
 impl Entries {
-    /// No entry, of a trail with so many places.
+    /// No entry, of a trail with `places` places.
     pub(crate) fn new(alloc: Global, places: u32) -> Entries {
         Entries {
             wanted: Vec::new(alloc),

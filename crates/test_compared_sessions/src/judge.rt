@@ -1,4 +1,4 @@
-//! What the clients of a session are to be told, by a plain machine beside it.
+//! What the clients of a session are to be told, by a plain machine that is led too.
 
 use crate::entries::{Entries, is_entered};
 use crate::session::{Brought, Turned};
@@ -6,17 +6,17 @@ use lsm_device::Refusal;
 use lsm_store::Choice;
 use lsm_trail::{Numbers, Trail};
 use std::alloc::{Allocator, Global};
+use test_compared_steps::plain::{Answer, Machine, PARTS, Step};
 use test_compared_steps::trouble::{Trouble, agree, unrefused};
 use test_merge::budget::Budget;
-use test_plain_machine::{Answer, Machine, PARTS, Step};
 
-/// The number of the snapshot that a session pins, the first behind an opening.
+/// The number of the snapshot that a session pins, the first after an opening.
 const BASE: u64 = 1;
 
 /// How many slots a turn asks.
 const SLOTS: usize = 4;
 
-/// What is done behind the step that a harm meets and that may be made again.
+/// What is done after the step that a harm meets and that may be made again.
 #[derive(Clone, Copy, PartialEq, Eq)]
 pub enum Then {
     /// It is made again.
@@ -79,7 +79,7 @@ fn built_of(step: Option<Step>) -> Option<u64> {
 }
 
 impl<'h> Judge<'h> {
-    /// A judge of a session with so many places in its trail.
+    /// A judge of a session with `places` places in its trail.
     pub fn new(alloc: Global, machine: Machine, places: u32, harm: Harm<'h>) -> Judge<'h> {
         Judge {
             machine,
@@ -203,7 +203,7 @@ impl<'h> Judge<'h> {
         Ok(())
     }
 
-    /// A result was built and brought, where so many tables are due. The entry of the build stands whatever comes behind it.
+    /// A result was built and brought, where `tables` are due. The entry of the build stands whatever comes after it.
     fn merge(&mut self, client: u32, brought: Brought, tables: Answer) -> Result<Heard, Trouble> {
         if brought.built == Answer::Refused(Refusal::NoMemory) {
             self.miss()?;

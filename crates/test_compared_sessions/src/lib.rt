@@ -1,5 +1,5 @@
-//! Sessions of a store, led deed by deed on a device in memory, each answer compared with that of a plain machine beside them. A call
-//! of the device may fail, or a growth be refused, and the judge knows what is to be answered then.
+//! Sessions of a store, led deed by deed on a device in memory, each answer compared with that of a plain machine that is led too. A
+//! call of the device may fail, or a growth be refused, and the judge knows what is to be answered then.
 //!
 //! | module | what is in it |
 //! |---|---|

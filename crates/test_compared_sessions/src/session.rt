@@ -15,9 +15,9 @@ use std::alloc::Allocator;
 use std::sync::{Arc, Wait};
 use std::thread::Threads;
 use test_compared_steps::asking::{call_of, told_call, told_work};
+use test_compared_steps::plain::{Answer, PARTS, Step};
 use test_compared_steps::subject::Subject;
 use test_compared_steps::trouble::Trouble;
-use test_plain_machine::{Answer, PARTS, Step};
 
 /// The numbers of a job and of a result of it, and what was answered to the build and to the bringing of that.
 #[derive(Clone, Copy)]

@@ -1,4 +1,4 @@
-//! A session over a store, led deed by deed beside its judge.
+//! A session over a store, led deed by deed and compared with its judge.
 
 ghost use Rattle.std.specs.Prelude.{◌≡◌};
 ghost use Rattle.std.specs.Arc.{arc_value};
@@ -17,12 +17,12 @@ use std::sync::{Arc, Wait};
 use std::thread::Threads;
 use test_compared_steps::asking::told_work;
 use test_compared_steps::lists::step_of;
+use test_compared_steps::plain::Answer;
 use test_compared_steps::playing::is_unchanged;
 use test_compared_steps::subject::Subject;
 use test_compared_steps::trouble::Trouble;
-use test_plain_machine::Answer;
 
-/// A store behind a session, or one whose session has not begun for want of memory.
+/// A store in a session, or one whose session has not begun for want of memory.
 struct Led<A: Allocator, B: Allocator> {
     subject: Subject<A, B>,
     is_begun: bool,
@@ -90,7 +90,7 @@ fn hear_and_watch<
     Ok(heard)
 }
 
-/// Behind a deed that met the harm, and changed nothing: it is done again, and is answered, or not. It tells whether the session
+/// After a deed that met the harm and changed nothing: it is done again, and is answered, or not. Returns whether the session
 /// goes on.
 fn do_again<
     N: SessionName,
@@ -116,7 +116,7 @@ fn do_again<
     }
 }
 
-/// Lets a client do something, whatever harm it meets. It tells whether the session goes on.
+/// Lets a client do something, whatever harm it meets. Returns whether the session goes on.
 fn do_one<
     N: SessionName,
     R: Threads + Wait + Sync,
@@ -132,7 +132,7 @@ fn do_one<
     go_on(rt, session, judge, deed, heard)
 }
 
-/// Behind a deed of which this was heard. It tells whether the session goes on.
+/// After a deed of which this was heard. Returns whether the session goes on.
 fn go_on<N: SessionName, R: Threads + Wait + Sync, A: Allocator + Copy + Send + Sync, B: Allocator>(
     rt: &R,
     session: &mut Session<N, A, B>,
@@ -223,7 +223,7 @@ fn turn_late<
     }
 }
 
-/// A result comes late, and the clients do what comes behind it.
+/// A result comes late, and the clients do what comes after it.
 fn do_late<
     N: SessionName,
     R: Threads + Wait + Sync,

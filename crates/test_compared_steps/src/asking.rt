@@ -1,11 +1,11 @@
 //! Steps as values of a session or a replay, and what these reply.
 
+use crate::plain::{Answer, Change, Condition, PARTS, Step};
 use crate::subject::{batch_of, guards_of, told_page, told_taken, value_of};
 use lsm_device::Refusal;
 use lsm_lives::{Call, Reply, Step as Asked, Work};
 use lsm_store::At;
 use std::alloc::Allocator;
-use test_plain_machine::{Answer, Change, Condition, PARTS, Step};
 
 fn commit_of<A: Allocator + Clone>(alloc: &A, change: Change) -> Result<Call<A>, Refusal> {
     Ok(Call::Commit(batch_of(alloc, change)?))

@@ -5,11 +5,11 @@ use crate::draws::Draws;
 use crate::image::Image;
 use crate::layout::spread;
 use crate::lists::{Line, drawn, steps_of};
+use crate::plain::{Answer, Change, LOG_SECTORS, Machine, Step};
 use crate::playing::{opened, play};
 use crate::trouble::Trouble;
 use std::alloc::Global;
 use std::thread::Threads;
-use test_plain_machine::{Answer, Change, LOG_SECTORS, Machine, Step};
 
 /// What becomes of an image before it is opened.
 #[derive(Clone, Copy)]
@@ -63,8 +63,8 @@ pub fn begun<R: Threads + Sync>(
     Ok(Beginning { image, machine })
 }
 
-/// The image that lives of so many drawn steps each leave, one behind another, of which nothing is lost, and the machine that the next
-/// opening finds.
+/// The image left by lives one after another, each of its number of drawn steps in `lives`, of which nothing is lost; and the machine
+/// that the next opening finds.
 pub fn lived<R: Threads + Sync>(
     rt: &R,
     alloc: Global,
@@ -82,7 +82,7 @@ pub fn lived<R: Threads + Sync>(
     Ok(Beginning { image, machine })
 }
 
-/// What a crash leaves behind some lines that end with a sync: of one batch more, of two sectors, the first.
+/// What a crash leaves after some lines that end with a sync: of one batch more, of two sectors, the first.
 fn torn<R: Threads + Sync>(rt: &R, alloc: Global, past: &[Line]) -> Result<Beginning, Trouble> {
     let steps = steps_of(alloc, past)?;
     let mut machine = Machine::new(alloc);
@@ -110,7 +110,7 @@ fn spread_out<R: Threads + Sync>(
     Ok(beginning)
 }
 
-/// What some lines, and what comes behind them, leave.
+/// What some lines, and what comes after them, leave.
 pub fn begin<R: Threads + Sync>(
     rt: &R,
     alloc: Global,

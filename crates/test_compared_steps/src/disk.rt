@@ -96,7 +96,7 @@ impl<B: Allocator> Disk<B> {
         self.device.reads().wrapping_add(self.changes())
     }
 
-    /// Lets all writes and syncs fail behind so many.
+    /// Lets all writes and syncs fail after the next n.
     pub fn fuse(&mut self, n: u64) {
         self.device.fuse(n);
     }

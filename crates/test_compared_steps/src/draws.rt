@@ -54,7 +54,7 @@ impl Draws {
         self.number() % bound
     }
 
-    /// A place among so many, 0 where there is none.
+    /// A place among `count`, 0 where there is none.
     pub fn place(&mut self, count: usize) -> usize {
         if count == 0 {
             return 0;

@@ -59,7 +59,7 @@ pub struct Record {
     pub footer: u32,
 }
 
-/// A byte of a sector, 0 behind its end.
+/// A byte of a sector, 0 after its end.
 fn byte_of(bytes: &[u8; 512], at: usize) -> u8 {
     bytes.get(at).copied().unwrap_or(0)
 }

@@ -1,5 +1,5 @@
-//! Steps that a store makes on a device in memory, each answer compared with that of a plain machine that makes them beside it. The
-//! calls of a device and of a store that stand here tell the prover nothing, so that a caller is proved without their contracts.
+//! Steps that a store makes on a device in memory, each answer compared with that of a plain machine that makes them too. The calls
+//! of a device and of a store in this crate tell the prover nothing, so that a caller is proved without their contracts.
 //!
 //! | module | what is in it |
 //! |---|---|
@@ -7,7 +7,8 @@
 //! | `disk`, `image`, `layout` | devices, what stands on them, and where the fields of that lie |
 //! | `subject`, `tables`, `asking` | a store that answers steps, what is told of its tables, and steps as values that it replies to |
 //! | `trouble` | how a store differs from the machine |
-//! | `playing`, `beginnings` | steps that both make, crashes behind them, and the images that they leave |
+//! | `plain` | the plain machine |
+//! | `playing`, `beginnings` | steps that both make, crashes after them, and the images that they leave |
 #![tactic(auto)]
 
 pub mod asking;
@@ -17,6 +18,7 @@ pub mod draws;
 pub mod image;
 pub mod layout;
 pub mod lists;
+pub mod plain;
 pub mod playing;
 pub mod subject;
 mod tables;

@@ -1,21 +1,21 @@
 //! Lists of steps.
 
 use crate::draws::Draws;
+use crate::plain::{Change, Division, Machine, Step};
 use lsm_device::Refusal;
 use lsm_store::{At, Choice};
 use std::alloc::Global;
-use test_plain_machine::{Change, Division, Machine, Step};
 
 /// One or more steps, in a word.
 #[derive(Clone, Copy)]
 pub enum Line {
     /// Puts a value of one byte, the key's.
     Put(u8),
-    /// Puts a value of so many bytes.
+    /// Puts a value of a number of bytes.
     Long(u8, u16),
     Delete(u8),
     Get(u8),
-    /// Scans from a key on, for so many rows.
+    /// Scans from a key on, for up to a number of rows.
     Scan(u8, u64),
     One(Step),
     /// All pieces of work on the job of a number, one after another.
@@ -216,7 +216,7 @@ fn step(draws: &mut Draws, machine: &Machine) -> Step {
     }
 }
 
-/// So many random steps of a machine, which it has made then.
+/// `count` random steps of a machine, which it has made then.
 pub fn drawn(
     alloc: Global,
     draws: &mut Draws,

@@ -1,12 +1,12 @@
-//! Steps that a store and a plain machine make beside each other.
+//! Steps that a store and a plain machine both make.
 
 use crate::disk::{Disk, Mask};
+use crate::plain::{Answer, Machine, Step};
 use crate::subject::{Subject, open};
 use crate::trouble::{Trouble, agree};
 use lsm_store::At;
 use std::alloc::Allocator;
 use std::thread::Threads;
-use test_plain_machine::{Answer, Machine, Step};
 
 /// The store on a device, whose opening is not to be refused.
 pub fn opened<A: Allocator + Clone, B: Allocator>(

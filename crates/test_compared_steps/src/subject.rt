@@ -1,6 +1,9 @@
 //! A store on a device in memory, whose calls tell the prover nothing.
 
 use crate::disk::Disk;
+use crate::plain::{
+    Answer, Change, Condition, Division, Operation, RowsTold, Step, TablesTold, Value, told,
+};
 use crate::tables::told_tables;
 use lsm_codec::{Batch, Guard, Key, Op};
 use lsm_device::{MemDevice, Refusal};
@@ -10,9 +13,6 @@ use lsm_store::{At, Choice, Page, Store, TakenJob};
 use std::alloc::{AllocError, Allocator, Global};
 use std::sync::Arc;
 use std::thread::Threads;
-use test_plain_machine::{
-    Answer, Change, Condition, Division, Operation, RowsTold, Step, TablesTold, Value, told,
-};
 
 /// How many blocks the cache keeps.
 const CACHE: u32 = 256;

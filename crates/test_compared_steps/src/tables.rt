@@ -1,8 +1,8 @@
 //! What is told of the tables of a store.
 
+use crate::plain::{TableTold, TablesTold};
 use lsm_levels::{Levels, PlacedTable, Run};
 use std::alloc::Allocator;
-use test_plain_machine::{TableTold, TablesTold};
 
 /// The only byte, or 0.
 fn only(bytes: &[u8]) -> u8 {

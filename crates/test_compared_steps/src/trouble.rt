@@ -1,8 +1,8 @@
 //! How a store differs from what it should do.
 
+use crate::plain::{Answer, Step, TablesTold};
 use lsm_device::Refusal;
 use std::alloc::{AllocError, AllocFailed};
-use test_plain_machine::{Answer, Step, TablesTold};
 
 /// How a store differs.
 #[derive(Clone, Copy, Debug)]
@@ -23,7 +23,7 @@ pub enum Trouble {
     },
     /// An opening has a number of batches that no crash leaves.
     Count(u64),
-    /// An opening has so many batches, and another map than they make.
+    /// An opening has this number of batches, and another map than they make.
     Map(u64),
     /// The levels have other tables.
     Tables {
@@ -44,7 +44,7 @@ pub enum Trouble {
     Trail,
     /// An exploration counts otherwise than with ample memory, or found something wrong.
     Explored,
-    /// Of the heap so many bytes are not given back.
+    /// This number of bytes of the heap is not given back.
     Leak(usize),
 }
 

@@ -4,10 +4,10 @@ use std::alloc::{Allocator, Global};
 use std::thread::Threads;
 use test_compared_steps::beginnings::{After, Beginning, begin};
 use test_compared_steps::lists::{Line, steps_of};
+use test_compared_steps::plain::{Machine, Step};
 use test_compared_steps::playing::{opened, play};
 use test_compared_steps::subject::Subject;
 use test_compared_steps::trouble::Trouble;
-use test_plain_machine::{Machine, Step};
 
 /// A list of steps: those that make the image, those before the store is attacked, and those under attack.
 #[derive(Clone, Copy)]

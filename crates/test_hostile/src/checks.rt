@@ -24,7 +24,7 @@ pub(crate) fn checked<A: Allocator + Clone>(
     Err(Trouble::Written)
 }
 
-/// Lets a call of a check fail, which is its last and answered with Io. It tells whether the call was made.
+/// Lets a call of a check fail, which is its last and answered with Io. Returns whether the call was made.
 fn fail(alloc: Global, disk: &mut Disk, ample: Report, n: u64) -> Result<bool, Trouble> {
     disk.fail(n, false);
     let start = disk.calls();
@@ -37,7 +37,7 @@ fn fail(alloc: Global, disk: &mut Disk, ample: Report, n: u64) -> Result<bool, T
     }
 }
 
-/// Refuses a growth of a check, which has no memory then. It tells whether the growth was asked for.
+/// Refuses a growth of a check, which has no memory then. Returns whether the growth was asked for.
 fn refuse(alloc: Global, disk: &mut Disk, ample: Report, n: u64) -> Result<bool, Trouble> {
     let heap = Budget::new(alloc, u64::MAX);
     heap.refuse_after(n);

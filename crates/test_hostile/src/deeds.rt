@@ -4,7 +4,7 @@ use crate::scripts::{BATCHES, FOUR_RUNS, LACKS_1, LACKS_9, TWELVE_RUNS};
 use lsm_store::{At, Choice};
 use test_compared_sessions::deeds::{Deed, Late, Sitting, Sizes};
 use test_compared_steps::lists::Line;
-use test_plain_machine::{Change, Condition, Step, Value};
+use test_compared_steps::plain::{Change, Condition, Step, Value};
 
 /// One client, with a flush between its calls.
 const FLUSHED: [Deed; 24] = [
@@ -34,7 +34,7 @@ const FLUSHED: [Deed; 24] = [
     Deed::Call(0, Line::Scan(0, 64)),
 ];
 
-/// One client, with a merge, and a flush behind it, and the rewrite of what was merged.
+/// One client, with a merge, and a flush after it, and the rewrite of what was merged.
 const MERGED: [Deed; 20] = [
     Deed::Turn(0),
     Deed::Call(0, Line::Put(5)),
@@ -243,7 +243,7 @@ const PUT_OFF: [Deed; 12] = [
     Deed::Call(0, Line::Scan(0, 64)),
 ];
 
-/// The same, where the trail has a place for an install that is put off, and none for what comes behind it.
+/// The same, where the trail has a place for an install that is put off, and none for what comes after it.
 const PUT_OFF_AT_THE_END: [Deed; 7] = [
     Deed::Call(0, Line::Put(20)),
     Deed::Call(0, Line::One(Step::Rotate)),

@@ -11,9 +11,9 @@ use std::thread::Threads;
 use test_compared_steps::asking::asked_all;
 use test_compared_steps::disk::SECTORS;
 use test_compared_steps::lists::{Line, steps_of};
+use test_compared_steps::plain::{LOG_SECTORS, Step};
 use test_compared_steps::trouble::Trouble;
 use test_merge::budget::Budget;
-use test_plain_machine::{LOG_SECTORS, Step};
 
 /// More growths than any exploration has.
 const MOST: u64 = 1_000_000;
@@ -72,7 +72,7 @@ fn explored_in<R: Threads + Sync>(
     explored(rt, heap, &asked, twice)
 }
 
-/// Refuses a growth of an exploration: it has no memory then, or finds nothing wrong. It tells whether the growth was asked for.
+/// Refuses a growth of an exploration: it has no memory then, or finds nothing wrong. Returns whether the growth was asked for.
 fn refuse<R: Threads + Sync>(
     rt: &R,
     alloc: Global,
@@ -93,7 +93,7 @@ fn refuse<R: Threads + Sync>(
     Err(Trouble::Explored)
 }
 
-/// Refuses each growth of an exploration in turn, or of so many one.
+/// Refuses each growth of an exploration in turn, or one in a number of them.
 pub(crate) fn sweep<R: Threads + Sync>(
     rt: &R,
     alloc: Global,

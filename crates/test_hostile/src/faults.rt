@@ -7,10 +7,10 @@ use lsm_device::Refusal;
 use std::alloc::Global;
 use std::thread::Threads;
 use test_compared_steps::disk::{MASKS, Mask};
+use test_compared_steps::plain::{Answer, Machine, Step};
 use test_compared_steps::playing::{crash, is_left, is_unchanged};
 use test_compared_steps::subject::Subject;
 use test_compared_steps::trouble::{Trouble, agree, unrefused};
-use test_plain_machine::{Answer, Machine, Step};
 
 /// More device calls than any list makes.
 const MOST: u64 = 10_000;
@@ -30,7 +30,7 @@ struct Course {
     met: bool,
 }
 
-/// The step at which a call failed is the first, and makes no call behind it.
+/// The step at which a call failed is the first, and makes no call after it.
 fn meet(
     subject: &Subject<Global>,
     fault: Fault,
@@ -128,7 +128,7 @@ pub(crate) fn make_all<R: Threads + Sync>(
     Ok(course.met)
 }
 
-/// Makes a list of steps of which one call fails, and lets a crash come. It tells whether the call was made.
+/// Makes a list of steps of which one call fails, and lets a crash come. Returns whether the call was made.
 fn attack<R: Threads + Sync>(
     rt: &R,
     alloc: Global,

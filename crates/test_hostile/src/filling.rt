@@ -3,10 +3,10 @@
 use anyhow::Result;
 use test_random_stores::{Feeding, Tally, feed_all, try_all};
 
-/// What the words behind the first say: the seed of the first store; how many stores there are; how many batches each gets in a round at most, for each MiB
-/// that its tables may take; its sectors and those of a log region, where 0 stands for several sizes; how many calls of the device fail in a
-/// round, of one store in 25; how many rows are replaced one by one in a store that was once stuck, where 0 leaves out all of these; and
-/// whether other calls come between the batches, where 0 says no.
+/// What the words after the first say: the seed of the first store; how many stores there are; how many batches each gets in a round at
+/// most, for each MiB that its tables may take; its sectors and those of a log region, where 0 stands for several sizes; how many calls of
+/// the device fail in a round, of one store in 25; how many rows are replaced one by one in a store that was once stuck, where 0 leaves out
+/// all of these; and whether other calls come between the batches, where 0 says no.
 fn numbers_in(words: &[String]) -> Result<[u64; 8]> {
     let mut numbers: [u64; 8] = [1, 100, 1_000, 0, 0, 20, 200, 0];
     for (number, word) in numbers.iter_mut().zip(words.iter().skip(1)) {

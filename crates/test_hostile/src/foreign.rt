@@ -15,9 +15,9 @@ use test_compared_steps::draws::Draws;
 use test_compared_steps::image::{Image, Sector};
 use test_compared_steps::layout::manifest_of;
 use test_compared_steps::lists::{Line, steps_of};
+use test_compared_steps::plain::{Answer, Step};
 use test_compared_steps::subject::{Subject, open};
 use test_compared_steps::trouble::Trouble;
-use test_plain_machine::{Answer, Step};
 
 /// The bytes of the heap of a store. No image makes a store want more.
 const MEMORY: usize = 8 * 1_024 * 1_024;
@@ -196,7 +196,7 @@ impl Drop for Tried {
     }
 }
 
-/// Checks and opens a changed image on a heap, and makes the calls. It tells whether it was opened.
+/// Checks and opens a changed image on a heap, and makes the calls. Returns whether it was opened.
 fn try_in(alloc: Global, heap: &LocalHeap, tried: &Tried, spots: &[Spot]) -> Result<bool, Trouble> {
     let mut disk = changed(alloc, &tried.image, spots)?;
     checks(heap, &mut disk)?;
@@ -252,7 +252,7 @@ fn others(byte: u8) -> [u8; 5] {
     [0, 255, byte.wrapping_add(1), byte.wrapping_sub(1), byte ^ 1]
 }
 
-/// Whether a byte is among the first so many.
+/// Whether a byte is among the first `count`.
 fn is_among(others: &[u8; 5], count: usize, byte: u8) -> bool {
     for place in 0..5_usize {
         if place < count && others[place] == byte {
@@ -265,7 +265,7 @@ fn is_among(others: &[u8; 5], count: usize, byte: u8) -> bool {
 /// How many bytes at the beginning of a sector are changed in each sweep.
 const FIRST: usize = 64;
 
-/// How much of a sweep is done: of so many cases one, or also all of those of the first bytes of sectors that are not zero.
+/// How much of a sweep is done: one in `every` cases, or also all of those of the first bytes of sectors that are not zero.
 #[derive(Clone, Copy)]
 struct Share {
     every: u64,
@@ -338,7 +338,8 @@ fn to_change<R: Threads + Sync>(rt: &R, alloc: Global, past: &[Line]) -> Result<
     })
 }
 
-/// Changes each byte of the superblocks, the manifest and the table of an image with one key, or of so many cases one.
+/// Changes one byte at a time of the superblocks, the manifest and the table of an image with one key: one in `every`; where
+/// `firsts` is true also each of the first bytes of a sector.
 pub(crate) fn sweep_bytes<R: Threads + Sync>(
     rt: &R,
     alloc: Global,
@@ -376,7 +377,7 @@ fn try_drawn<R: Threads + Sync>(
     Ok(())
 }
 
-/// Tries so many images with several changes, of a store with many tables, with their jobs; and a tenth as many that lie.
+/// Tries `images` images with several changes, of a store with many tables, with their jobs; and a tenth as many that lie.
 pub(crate) fn sweep_drawn<R: Threads + Sync>(
     rt: &R,
     alloc: Global,

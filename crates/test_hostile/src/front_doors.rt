@@ -1,4 +1,4 @@
-//! Random lives of a front door, with calls that fail and crashes behind them, beside a plain list of rows.
+//! Random lives of a [`corwaphi::Db`], with calls that fail and crashes after them, compared with a plain list of rows.
 
 use crate::tally::Tally;
 use std::alloc::Global;
@@ -16,7 +16,7 @@ const LED: Feeding = Feeding {
     is_mixed: true,
 };
 
-/// Leads so many stores through three rounds, and answers what came of them.
+/// Leads `stores` stores through three rounds, and returns what came of them.
 pub(crate) fn sweep<R: AllocGlobal>(
     rt: &R,
     alloc: Global,

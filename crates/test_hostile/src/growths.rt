@@ -10,11 +10,11 @@ use test_compared_steps::beginnings::begun;
 use test_compared_steps::disk::mask_of;
 use test_compared_steps::draws::Draws;
 use test_compared_steps::lists::drawn;
+use test_compared_steps::plain::{Answer, Machine, Step};
 use test_compared_steps::playing::{crash, is_left, is_unchanged};
 use test_compared_steps::subject::Subject;
 use test_compared_steps::trouble::{Trouble, agree, unrefused};
 use test_merge::budget::Budget;
-use test_plain_machine::{Answer, Machine, Step};
 
 /// More growths than any list has.
 const MOST: u64 = 100_000;
@@ -90,7 +90,7 @@ fn make_all<R: Threads + Sync>(
     Ok(())
 }
 
-/// Makes a list of steps in which a growth is refused, on a store of a heap, and lets a crash come. It tells whether the growth
+/// Makes a list of steps in which a growth is refused, on a store of a heap, and lets a crash come. Returns whether the growth
 /// was asked for.
 fn attack_in<R: Threads + Sync>(
     rt: &R,

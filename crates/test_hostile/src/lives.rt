@@ -10,12 +10,12 @@ use std::thread::Threads;
 use test_compared_steps::disk::{Disk, formatted};
 use test_compared_steps::draws::Draws;
 use test_compared_steps::lists::drawn;
+use test_compared_steps::plain::{Answer, LOG_SECTORS, Machine, Step};
 use test_compared_steps::playing::{has_map, is_unchanged, opened};
 use test_compared_steps::subject::Subject;
 use test_compared_steps::trouble::Trouble;
-use test_plain_machine::{Answer, LOG_SECTORS, Machine, Step};
 
-/// How many lives a store has, one behind another.
+/// How many lives a store has, one after another.
 const LIVES: u32 = 3;
 
 /// The steps of a long life, and of a short one.
@@ -57,7 +57,7 @@ fn found(alloc: Global, disk: Disk, machine: &Machine) -> Result<(Subject<Global
     }
 }
 
-/// Makes steps, of which a call may fail, and lets a crash come. It tells whether a call failed.
+/// Makes steps, of which a call may fail, and lets a crash come. Returns whether a call failed.
 fn live<R: Threads + Sync>(
     rt: &R,
     subject: Subject<Global>,
@@ -99,7 +99,7 @@ fn lead<R: Threads + Sync>(
     Ok(())
 }
 
-/// Leads so many stores, of which each tenth has long lives.
+/// Leads `stores` stores, of which each tenth has long lives.
 pub(crate) fn sweep<R: Threads + Sync>(
     rt: &R,
     alloc: Global,

@@ -1,5 +1,5 @@
-//! Hostile use of a store: one call of its device fails, one growth of memory is refused, or its image is none that a store
-//! wrote. Its answers agree with those of a plain machine. Behind the word `stores` it fills stores at random in their place.
+//! Hostile use of a store: one call of its device fails, one growth of memory is refused, or its image is invalid. Its
+//! answers agree with those of a plain machine. After the word `stores` it fills stores at random instead.
 #![tactic(auto)]
 
 mod attacked;

@@ -17,11 +17,11 @@ use test_compared_steps::trouble::Trouble;
 /// More writes and syncs than an opening makes.
 const MOST: u64 = 60;
 
-/// The first sector behind superblocks and manifests.
+/// The first sector after superblocks and manifests.
 const LOGS: u32 = 130;
 
-/// Opens a device on which an image stands, and stops that behind so many writes and syncs. It answers what a crash leaves, and
-/// tells whether the opening ended before.
+/// Opens a device that holds an image, and stops the opening after `fuse` writes and syncs. Returns what a crash leaves, and
+/// whether the opening ended before.
 fn stopped(
     alloc: Global,
     beginning: &Beginning,
@@ -36,7 +36,7 @@ fn stopped(
     }
 }
 
-/// What a stopped opening of an image left. It wrote nothing behind superblocks and manifests.
+/// What a stopped opening of an image left. It wrote nothing after superblocks and manifests.
 fn left(alloc: Global, beginning: &Beginning, disk: &mut Disk) -> Result<Beginning, Trouble> {
     let image = Image::of(alloc, disk)?;
     if image.sum_from(LOGS) != beginning.image.sum_from(LOGS) {
@@ -97,7 +97,7 @@ fn grown<R: Threads + Sync>(
     }
 }
 
-/// Makes so many images of version 1, and stops their openings. It tells whether there were some with many tables, some with
+/// Makes `images` images of version 1, and stops their openings. Returns whether there were some with many tables, some with
 /// deletes in them, and some with more than one closed log.
 pub(crate) fn sweep<R: Threads + Sync>(
     rt: &R,

@@ -9,16 +9,16 @@ use std::alloc::{Allocator, Global};
 use std::thread::Threads;
 use test_compared_steps::beginnings::{Beginning, begin};
 use test_compared_steps::disk::{Disk, MASKS, Mask};
+use test_compared_steps::plain::Machine;
 use test_compared_steps::playing::{find, has_map};
 use test_compared_steps::subject::{Subject, open};
 use test_compared_steps::trouble::Trouble;
 use test_merge::budget::Budget;
-use test_plain_machine::Machine;
 
 /// More device calls, and more growths, than an opening or a check has.
 pub(crate) const MOST: u64 = 10_000;
 
-/// Whether a device had so many calls more.
+/// Whether a device has had `calls` calls more.
 fn had<B: Allocator>(disk: &Disk<B>, start: u64, calls: u64) -> Result<(), Trouble> {
     if disk.calls().wrapping_sub(start) == calls {
         return Ok(());
@@ -42,7 +42,7 @@ fn unfailed(
     Ok(subject.into_disk())
 }
 
-/// Opens a device of which one call fails, and takes it back, with no call that is still to fail. It tells whether the call was
+/// Opens a device of which one call fails, and takes it back, with no call that is still to fail. Returns whether the call was
 /// made.
 fn open_failing(
     alloc: Global,
@@ -114,7 +114,7 @@ fn fail_each(
     Err(Trouble::Calls { step: None })
 }
 
-/// Opens a device on a heap that refuses one growth, and takes it back. The growths behind it are not refused. It tells whether
+/// Opens a device on a heap that refuses one growth, and takes it back. The growths after it are not refused. Returns whether
 /// the growth was asked for.
 fn open_short<'h>(
     heap: &'h Budget<Global>,

@@ -9,11 +9,11 @@ use std::alloc::{Allocator, Global};
 use std::thread::Threads;
 use test_compared_steps::asking::{asked_all, told_step, undivided};
 use test_compared_steps::disk::mask_of;
+use test_compared_steps::plain::{Answer, Machine, Step};
 use test_compared_steps::playing::{crash, is_left, is_unchanged};
 use test_compared_steps::subject::Subject;
 use test_compared_steps::trouble::{Trouble, agree, unrefused};
 use test_merge::budget::Budget;
-use test_plain_machine::{Answer, Machine, Step};
 
 /// More growths than any replay has.
 const MOST: u64 = 100_000;
@@ -30,7 +30,7 @@ struct Heard {
     results: u64,
 }
 
-/// What is to be replied to a step: an accept behind a build without a result finds none.
+/// What is to be replied to a step: an accept after a build without a result finds none.
 fn due(machine: &mut Machine, heard: Heard, step: Step) -> Answer {
     match step {
         Step::Accept(job) if heard.builds != heard.results => machine.foreign(job),
@@ -142,7 +142,7 @@ fn replay<'h, R: Threads + Sync>(
     }
 }
 
-/// Replays a list of which a growth is refused, on a store of a heap, and lets a crash come. It tells whether the growth was asked
+/// Replays a list of which a growth is refused, on a store of a heap, and lets a crash come. Returns whether the growth was asked
 /// for.
 fn attack_in<R: Threads + Sync>(
     rt: &R,

@@ -4,7 +4,7 @@ use crate::attacked::List;
 use lsm_store::{At, Choice};
 use test_compared_steps::beginnings::After;
 use test_compared_steps::lists::Line;
-use test_plain_machine::{Change, Condition, Division, Step, Value};
+use test_compared_steps::plain::{Change, Condition, Division, Step, Value};
 
 /// Four runs of level 0, of which the merge of the oldest comes next.
 pub(crate) const FOUR_RUNS: [Line; 4] = [
@@ -30,7 +30,7 @@ pub(crate) const TWELVE_RUNS: [Line; 12] = [
     Line::Flush(12, 12),
 ];
 
-/// Three runs of level 0, a table of level 1, and two batches behind them.
+/// Three runs of level 0, a table of level 1, and two batches after them.
 const TABLES: [Line; 8] = [
     Line::Flush(1, 1),
     Line::Flush(2, 2),
@@ -74,7 +74,7 @@ const READS: [Line; 9] = [
     Line::One(Step::Scan(At::Now, 0, 0)),
 ];
 
-/// A rotation and the flush behind it, as the first job.
+/// A rotation and the flush after it, as the first job.
 const ROTATED: [Line; 8] = [
     Line::One(Step::Rotate),
     Line::One(Step::Rotate),
@@ -96,7 +96,7 @@ const MERGED: [Line; 6] = [
     Line::Scan(0, 64),
 ];
 
-/// The merge of the oldest three runs, and of those behind it there are too few for another.
+/// The merge of the oldest three runs; of those after it there are too few for another.
 const THREE_MERGED: [Line; 10] = [
     Line::One(Step::TakeOf(Choice::OldestRuns { count: 3 })),
     Line::One(Step::Read(1)),
@@ -164,7 +164,7 @@ const COMMITS: [Line; 12] = [
     Line::Scan(0, 64),
 ];
 
-/// A batch that fills the log, and what comes behind it.
+/// A batch that fills the log, and what comes after it.
 const FULL: [Line; 8] = [
     Line::One(Step::Commit(Change::Fill)),
     Line::Put(1),
@@ -257,8 +257,8 @@ const NEIGHBOURS: [Line; 5] = [
     Line::Chosen(Choice::OldestRuns { count: 4 }, 5, AT_2_AND_3),
 ];
 
-/// A rewrite of neighbours in their own place, beside which a flush goes on and no other merge, and one that keeps nothing, since its
-/// delete hides nothing more.
+/// A rewrite of neighbours in their own place, along with which a flush goes on and no other merge, and one that keeps nothing, since
+/// its delete hides nothing more.
 const REWRITTEN: [Line; 19] = [
     Line::One(Step::TakeOf(Choice::Rewrite { first: 5, last: 6 })),
     Line::One(Step::TakeOf(Choice::Tables { first: 7, last: 7 })),
@@ -440,7 +440,7 @@ pub(crate) const LISTS: [List; COUNT] = [
 /// A put in a table, and nothing else.
 pub(crate) const ONE_KEY: [Line; 1] = [Line::Flush(0x61, 1)];
 
-/// Four runs of level 0, a table of level 1, and batches behind them.
+/// Four runs of level 0, a table of level 1, and batches after them.
 pub(crate) const MANY_TABLES: [Line; 9] = [
     Line::Flush(1, 1),
     Line::Flush(2, 2),
@@ -453,7 +453,7 @@ pub(crate) const MANY_TABLES: [Line; 9] = [
     Line::Long(4, 700),
 ];
 
-/// What is done with a store of a foreign image: a get, a scan, a put, and calls behind them.
+/// What is done with a store of a foreign image: a get, a scan, a put, and calls after them.
 pub(crate) const CALLS: [Line; 19] = [
     Line::Get(0x61),
     Line::Get(1),

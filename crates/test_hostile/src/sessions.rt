@@ -18,7 +18,7 @@ use test_merge::budget::Budget;
 /// More device calls, and more growths, than any session has.
 const MOST: u64 = 10_000;
 
-/// The call that fails, counted from 0, whether it stands where it is a write, which crash follows, and what is done behind it.
+/// The call that fails, counted from 0, whether it is kept where it is a write, which crash follows, and what is done after it.
 #[derive(Clone, Copy)]
 struct Fault {
     n: u64,
@@ -27,7 +27,7 @@ struct Fault {
     then: Then,
 }
 
-/// Whether so many calls agree with what the clients were told of the one that fails: a stopped store makes none behind it, and
+/// Whether `made` calls agree with what the clients were told of the one that fails: a stopped store makes none after it, and
 /// neither does a session that ended with it.
 fn have_made(judge: &Judge<'_>, fault: Fault, made: u64) -> Result<(), Trouble> {
     let is_last = judge.machine.is_stopped() || fault.then == Then::End;
@@ -42,7 +42,7 @@ fn have_made(judge: &Judge<'_>, fault: Fault, made: u64) -> Result<(), Trouble> 
     Err(Trouble::Calls { step: None })
 }
 
-/// Leads a session of which one call fails, and lets a crash come. It tells whether the call was made.
+/// Leads a session of which one call fails, and lets a crash come. Returns whether the call was made.
 fn fail<R: Threads + Wait + Sync>(
     rt: &R,
     alloc: Global,
@@ -117,7 +117,7 @@ fn fail_each<R: Threads + Wait + Sync>(
     Err(Trouble::Calls { step: None })
 }
 
-/// Leads a session of which one growth is refused, on a store of a heap, and lets a crash come. It tells whether the growth was
+/// Leads a session of which one growth is refused, on a store of a heap, and lets a crash come. Returns whether the growth was
 /// asked for.
 fn refuse_in<R: Threads + Wait + Sync>(
     rt: &R,

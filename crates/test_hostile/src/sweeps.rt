@@ -15,19 +15,19 @@ use std::sync::Wait;
 use std::sync::atomic::{AtomicUsize, Ordering};
 use std::thread::{Threads, join};
 use test_compared_steps::disk::formatted;
+use test_compared_steps::plain::LOG_SECTORS;
 use test_compared_steps::trouble::Trouble;
-use test_plain_machine::LOG_SECTORS;
 
 /// All cases, where a part of them is told in ten-thousandths.
 pub(crate) const WHOLE: u64 = 10_000;
 
-/// Of this many bytes behind the first ones, divided by the part, one is changed.
+/// One in this number of bytes after the first ones, divided by the part, is changed.
 const OTHERS: u64 = 50_000;
 
 /// From this part on each call and each growth of a list is tried.
 const EACH: u64 = 1_000;
 
-/// Each of so many first calls is tried in any part: a short list has few syncs.
+/// The first calls, of this number, are always tried, since a short list has few syncs.
 const FIRST: u64 = 16;
 
 /// How many sweeps there are: those of the lists, and eight others.
@@ -38,9 +38,9 @@ const PLACES: usize = COUNT + 8;
 pub(crate) struct Extent {
     /// The part of the images, in ten-thousandths.
     pub(crate) part: u64,
-    /// Of so many calls or growths one is tried.
+    /// One in this number of calls or growths is tried.
     pub(crate) every: u64,
-    /// Whether each crash comes behind each call that fails.
+    /// Whether each crash comes after each call that fails.
     pub(crate) whole: bool,
 }
 
@@ -56,14 +56,14 @@ impl Extent {
         }
     }
 
-    /// The call that fails, or the growth that is refused, in a turn of a sweep: each of the first ones, and then of so many one.
+    /// The call that fails, or the growth that is refused, in a turn of a sweep: each of the first ones, and then one in `every`.
     pub(crate) fn call(self, turn: u64) -> u64 {
         let others = turn.saturating_sub(FIRST);
         turn.min(FIRST)
             .wrapping_add(others.wrapping_mul(self.every))
     }
 
-    /// Whether of so many ways to go on behind call n the one of this turn is tried: all of them, or each in its turn.
+    /// Whether variant `turn` of `turns` is tried after call n: each in a whole run, else one for each call in rotation.
     pub(crate) fn takes(self, n: u64, turn: u64, turns: u64) -> bool {
         if self.whole || turns == 0 || self.every == 0 {
             return true;
@@ -72,7 +72,7 @@ impl Extent {
     }
 }
 
-/// How a store differs: from the plain machine, or that of a seed, behind a front door, from a plain list.
+/// How a store differs: from the plain machine, or the `Db` of a seed from a plain list.
 #[derive(Clone, Copy, Debug)]
 pub(crate) enum Differs {
     Machine(Trouble),
@@ -106,8 +106,8 @@ pub(crate) struct Found {
 
 impl Found {
     /// Nothing yet. The memory of a device stays with the program as long as this does: the next device is made where one was before, and
-    /// since the list of differences stands behind that place, the allocator doesn't give it back to the system. Otherwise half of a
-    /// run is the system's work on memory that is touched for the first time.
+    /// since the list of differences comes after that place, the allocator doesn't give it back to the system. Otherwise half of a run is
+    /// the system's work on memory that is touched for the first time.
     fn keeping_memory(alloc: Global) -> Result<Found, Refusal> {
         // By the first one that is let go the allocator learns how large the blocks are that it may keep.
         drop(formatted(alloc, LOG_SECTORS)?);

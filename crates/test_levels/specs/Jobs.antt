@@ -3,8 +3,8 @@ use Rattle.std.specs.Prelude.{ℕ, List, [], ◌∷◌}
 use Rattle.lsm_levels.specs.Tables.{Table, table_at}
 use Rattle.lsm_levels.specs.Pick.{Job}
 use Rattle.lsm_levels.specs.Pick as job
-use Rattle.test_levels.specs.declared.jobs.Slots.{Slots}
-use Rattle.test_levels.specs.declared.jobs.Slots.TheVariants.{Free, Flush, Merge, Several, Rewrite}
+use Rattle.test_levels.specs.declared.slots.Slots.{Slots}
+use Rattle.test_levels.specs.declared.slots.Slots.TheVariants.{Free, Flush, Merge, Several, Rewrite}
 
 abbrev table : ℕ → Table
 table number = table_at (record { number = number; entries = 0; first = []; edges = []; filter = [] }) 0 0 []

@@ -1,13 +1,14 @@
-//! Tests of levels, and of what a policy advises for them.
+//! Tests of levels and of what goes on with them: what a policy advises, room, jobs, formats and openings.
 #![tactic(auto)]
 
-pub mod jobs;
 #[cfg(test)]
-mod picks;
+mod jobs;
 #[cfg(test)]
-mod policies;
+mod levels;
 #[cfg(test)]
-mod rewrites;
-pub mod rewriting;
+mod recovery;
+#[cfg(test)]
+mod room;
+pub mod slots;
 #[cfg(test)]
 mod tables;

@@ -1,0 +1,170 @@
+//! Which step comes next.
+
+use crate::room::areas::area_of;
+use crate::slots::Slots;
+use crate::tables::{PutKeys, levels_of, no_tables};
+use lsm_extent::Extents;
+use lsm_levels::{Choice, Levels};
+use lsm_room::{Advice, Standing};
+use std::alloc::{AllocError, Global};
+
+/// What is advised: nothing; a choice with so many divisions, which is sure to find room or not; or that room lacks for a choice.
+#[derive(Clone, Copy, Debug, PartialEq, Eq)]
+enum Told {
+    Nothing,
+    Take(Choice, usize),
+    Try(Choice, usize),
+    Lacks(Choice),
+    NoMemory,
+}
+
+fn standing<'a>(levels: &'a Levels, extents: &'a Extents, held: &'a Slots) -> Standing<'a, Slots> {
+    Standing {
+        levels,
+        extents,
+        held,
+        live: false,
+    }
+}
+
+fn as_told(advice: Result<Advice, AllocError>) -> Told {
+    match advice {
+        Ok(Advice::Nothing) => Told::Nothing,
+        Ok(Advice::Take(step)) => Told::Take(step.choice, step.divisions.len()),
+        Ok(Advice::Try(step)) => Told::Try(step.choice, step.divisions.len()),
+        Ok(Advice::Lacks { choice, wanted: _ }) => Told::Lacks(choice),
+        Err(_) => Told::NoMemory,
+    }
+}
+
+/// The next step down.
+fn down(alloc: Global, levels: &Levels, extents: &Extents) -> Told {
+    let held = Slots::Free;
+    as_told(standing(levels, extents, &held).step_down(&alloc))
+}
+
+/// The next move, and the next joining.
+fn aside_and_together(alloc: Global, levels: &Levels, extents: &Extents) -> (Told, Told) {
+    let held = Slots::Free;
+    let standing = standing(levels, extents, &held);
+    let aside = as_told(standing.step_aside(&alloc));
+    (aside, as_told(standing.step_together(&alloc)))
+}
+
+/// A table alone goes down.
+fn table(number: u64) -> Choice {
+    Choice::Tables {
+        first: number,
+        last: number,
+    }
+}
+
+/// Neighbours are written anew.
+fn rewrite(first: u64, last: u64) -> Choice {
+    Choice::Rewrite { first, last }
+}
+
+/// A table of one key.
+const ALONE: &[PutKeys] = &[(1, &[&[0x61]])];
+
+/// A table whose extent begins at block 9.
+const NINE: &[&[PutKeys]] = &[&[(9, &[&[0x61]])]];
+
+/// A table over three of the next level, which lie higher than 10 blocks.
+const OVER_THREE: &[&[PutKeys]] = &[
+    &[(11, &[&[0x61], &[0x7a]])],
+    &[(12, &[&[0x61]]), (13, &[&[0x6d]]), (14, &[&[0x7a]])],
+];
+
+/// Five tables.
+const FIVE: &[PutKeys] = &[
+    (1, &[&[0x61]]),
+    (2, &[&[0x62]]),
+    (3, &[&[0x63]]),
+    (4, &[&[0x64]]),
+    (5, &[&[0x65]]),
+];
+
+#[test]
+fn tables_go_down(rt: HostRuntime) {
+    let extents = area_of(&rt, rt.alloc(), 1, 500);
+    let none = no_tables(&rt, rt.alloc());
+    assert!(rt; down(rt.alloc(), &none, &extents) == Told::Nothing);
+    // Level 2 is the last one in a small area.
+    let last = levels_of(&rt, rt.alloc(), &[], &[&[], ALONE]);
+    assert!(rt; down(rt.alloc(), &last, &extents) == Told::Nothing);
+    let first = levels_of(&rt, rt.alloc(), &[], &[ALONE]);
+    assert!(rt; down(rt.alloc(), &first, &extents) == Told::Take(table(1), 0));
+    let run = levels_of(&rt, rt.alloc(), &[ALONE], &[]);
+    let oldest = Choice::OldestRuns { count: 1 };
+    assert!(rt; down(rt.alloc(), &run, &extents) == Told::Take(oldest, 0));
+}
+
+#[test]
+fn small_steps_where_room_is_scarce(rt: HostRuntime) {
+    let levels = levels_of(&rt, rt.alloc(), &[], OVER_THREE);
+    // The merge may make one table of two data blocks: 6 blocks. A cut makes two tables of 4 blocks at most. A copy takes 4, and where that
+    // leaves the longest gap as long, the table that lies highest is moved.
+    for (gaps, blocks, wanted) in [
+        (1, 6, Told::Take(table(11), 0)),
+        (1, 5, Told::Lacks(table(11))),
+        (3, 5, Told::Take(rewrite(11, 11), 1)),
+        (2, 4, Told::Take(rewrite(14, 14), 0)),
+        (2, 3, Told::Lacks(table(11))),
+    ] {
+        let extents = area_of(&rt, rt.alloc(), gaps, blocks);
+        assert!(rt;
+            down(rt.alloc(), &levels, &extents) == wanted,
+            "{gaps} {blocks}"
+        );
+    }
+}
+
+#[test]
+fn moves_and_joinings(rt: HostRuntime) {
+    let extents = area_of(&rt, rt.alloc(), 1, 500);
+    let five = levels_of(&rt, rt.alloc(), &[], &[FIVE]);
+    // A move would make the only gap shorter.
+    let together = (Told::Nothing, Told::Take(rewrite(1, 5), 0));
+    assert!(rt; aside_and_together(rt.alloc(), &five, &extents) == together);
+    // One entry each goes into one data block, so four blocks are enough for the table of all. By the number of their data blocks they
+    // might take eight.
+    for (blocks, wanted) in [
+        (8, Told::Take(rewrite(1, 5), 0)),
+        (7, Told::Try(rewrite(1, 5), 0)),
+        (4, Told::Try(rewrite(1, 5), 0)),
+        (3, Told::Nothing),
+    ] {
+        let gap = area_of(&rt, rt.alloc(), 1, blocks);
+        let (_, joined) = aside_and_together(rt.alloc(), &five, &gap);
+        assert!(rt; joined == wanted, "{blocks}");
+    }
+    // A table right behind the gap of blocks 5 to 8, whose copy takes that of blocks 0 to 3: then 8 lie side by side.
+    let nine = levels_of(&rt, rt.alloc(), &[], NINE);
+    let gaps = area_of(&rt, rt.alloc(), 2, 4);
+    let aside = (Told::Take(rewrite(9, 9), 0), Told::Nothing);
+    assert!(rt; aside_and_together(rt.alloc(), &nine, &gaps) == aside);
+    // Four tables are not too many, and no gap has room for a copy.
+    let few = levels_of(&rt, rt.alloc(), &[], OVER_THREE);
+    let full = area_of(&rt, rt.alloc(), 2, 3);
+    let nothing = (Told::Nothing, Told::Nothing);
+    assert!(rt; aside_and_together(rt.alloc(), &few, &full) == nothing);
+}
+
+#[test]
+fn a_run_surely_goes(rt: HostRuntime) {
+    // It has four blocks, and so has its copy at most.
+    let levels = levels_of(&rt, rt.alloc(), &[ALONE], &[]);
+    for (count, blocks, most_blocks, wanted) in [
+        (1, 4, 4, true),
+        (1, 3, 4, false),
+        (1, 4, 3, false),
+        (2, 500, 500, false),
+    ] {
+        let extents = area_of(&rt, rt.alloc(), 1, blocks);
+        let choice = Choice::OldestRuns { count };
+        let held = Slots::Free;
+        let given = standing(&levels, &extents, &held).is_sure(choice, most_blocks);
+        assert!(rt; given == wanted, "{count} {blocks} {most_blocks}");
+    }
+}

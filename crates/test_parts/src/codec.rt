@@ -1,0 +1,9 @@
+//! Tests of the formats.
+
+pub mod batches;
+mod manifest_tables;
+pub mod manifests;
+mod sectors;
+mod tables;
+mod texts;
+mod words;

@@ -1,0 +1,6 @@
+//! Tests of the devices, and of images.
+
+mod file;
+mod images;
+mod memory;
+mod sectors;

@@ -1,0 +1,6 @@
+//! Tests of the memory table.
+
+mod pages;
+mod sizes;
+mod tables;
+mod versions;

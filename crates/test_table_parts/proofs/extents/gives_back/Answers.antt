@@ -1,4 +1,0 @@
-use Rattle.test_table_parts.proofs.extents.gives_back.Goals as goal
-
-pub give-requires : goal.give-requires
-give-requires c = rw c.in_ok-first.ensures.held (c.extent_laws.ensures.among c.in_ok-first.first c.claims-stay.new.extents)
