@@ -20,8 +20,9 @@ use std::time::Instant;
 /// The most threads: one for each client.
 const MOST_THREADS: usize = 64;
 
-/// What clients do: each makes so many commits of one put, of numbers of its own, in a round, and syncs each or not. Before each it
-/// gets the value of its key so often. The trail has so many places, and who finds it full comes back. Or it is a filling by the first.
+/// What clients do: each makes `commits` commits of one put, of numbers of its own, in a round, and syncs each or not. Before each it
+/// gets the value of its key `gets` times. The trail has `places` places, and a client that finds it full returns. Or it is a filling
+/// by the first.
 #[derive(Clone, Copy)]
 pub(crate) struct Task {
     pub(crate) clients: u32,
@@ -42,7 +43,7 @@ pub(crate) struct Times {
     pub(crate) entries: u32,
 }
 
-/// Makes a call. It answers the number that is the reply, or 0 for another; and none where the call is refused.
+/// Makes a call. Returns the number that is the reply, or 0 for another; and `None` where the call fails.
 fn ask<D: Device, B: SessionName, R: Wait>(
     rt: &R,
     shared: &Shared<D, Global, B>,
@@ -56,7 +57,7 @@ fn ask<D: Device, B: SessionName, R: Wait>(
     }
 }
 
-/// Gets the value of a number's key so often, commits its put, and syncs it or not.
+/// Gets the value of a number's key `task.gets` times, commits its put, and syncs it where `task.synced`.
 fn put<D: Device, B: SessionName, R: Wait>(
     rt: &R,
     alloc: Global,
@@ -98,7 +99,7 @@ fn take_part<D: Device, B: SessionName, R: Threads + Wait + Clock + Sync>(
     }
 }
 
-/// All clients do their part at the same time. It answers the nanoseconds, and the most of a put of a filling.
+/// All clients do their part at the same time. Returns the nanoseconds, and the most of a put of a filling.
 fn timed<D: Device + Send, B: SessionName + Send + Sync, R: Threads + Wait + Clock + Sync>(
     rt: &R,
     alloc: Global,
@@ -118,7 +119,7 @@ fn timed<D: Device + Send, B: SessionName + Send + Sync, R: Threads + Wait + Clo
     (nanos, filled.into_inner().longest)
 }
 
-/// Ends a session, and lets its trail go. It answers the store, and how many entries there were.
+/// Ends a session, and lets its trail go. Returns the store, and how many entries there were.
 fn ended<D: Device + Drop, B: SessionName>(
     shared: Shared<D, Global, B>,
     clients: Vec<Client<Global, B>>,

@@ -20,7 +20,7 @@ pub(crate) fn value_of(key: &[u8; 16], round: u8) -> [u8; 100] {
     value
 }
 
-/// A batch that puts the values of so many numbers, of one at least.
+/// A batch that puts the values of `count` numbers, at least one.
 pub(crate) fn batch_of(alloc: Global, first: u32, count: u32, round: u8) -> Result<Batch, Refusal> {
     let key = key_of(first);
     let mut batch = Batch::new(alloc, Op::put(alloc, &key, &value_of(&key, round))?)?;
@@ -31,7 +31,7 @@ pub(crate) fn batch_of(alloc: Global, first: u32, count: u32, round: u8) -> Resu
     Ok(batch)
 }
 
-/// A batch that deletes every second one of so many numbers, beginning with the first.
+/// A batch that deletes every second one of `count` numbers, beginning with the first.
 pub(crate) fn thinning_of(alloc: Global, first: u32, count: u32) -> Result<Batch, Refusal> {
     let mut batch = Batch::new(alloc, Op::delete(alloc, &key_of(first))?)?;
     for place in 1..count.div_ceil(2) {
@@ -46,19 +46,4 @@ pub(crate) fn guards_of(alloc: Global, number: u32, round: u8) -> Result<Vec<Gua
     let mut guards = Vec::with_capacity(alloc, 1)?;
     guards.push(Guard::holds(alloc, &key, &value_of(&key, round))?)?;
     Ok(guards)
-}
-
-/// A key of eight bytes. Other numbers have other keys, and the keys of numbers in order are in an order that looks random.
-pub(crate) fn short_key_of(number: u32) -> [u8; 8] {
-    let [a, b, c, d] = number.wrapping_mul(2_654_435_761).to_be_bytes();
-    [b'k', b'e', b'y', b':', a, b, c, d]
-}
-
-/// A batch of puts under such keys of so many numbers, of one at least.
-pub(crate) fn short_batch_of(alloc: Global, first: u32, count: u32) -> Result<Batch, Refusal> {
-    let mut batch = Batch::new(alloc, Op::put(alloc, &short_key_of(first), &[7; 100])?)?;
-    for place in 1..count {
-        batch.put(&short_key_of(first.wrapping_add(place)), &[7; 100])?;
-    }
-    Ok(batch)
 }

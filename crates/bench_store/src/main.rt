@@ -1,14 +1,14 @@
-//! How fast a store is where its user stands: each workload beside the raw system calls that it must make. And how fast single
-//! layers are: memory, merges and openings. The words say what is measured:
+//! How fast a store is for its user: each workload compared with the raw system calls that it must make. And how fast
+//! merges alone are. The words say what is measured:
 //!
-//! - `FILE RUNS`: all workloads on the file of a path, so many times;
-//! - `upkeep FILE KEYS RUNS`: loads of so many keys, with all rotations and jobs, by the job that comes next and by the policy;
-//! - `gets FILE KEYS RUNS`: gets and pages of a store of so many keys, from the device and from the cache;
+//! - `FILE RUNS`: all workloads on the file of a path, RUNS times;
+//! - `upkeep FILE KEYS RUNS`: loads of KEYS keys, with all rotations and jobs, by the job that comes next and by the policy;
+//! - `gets FILE KEYS RUNS`: gets and pages of a store of KEYS keys, from the device and from the cache;
 //! - `rounds FILE RUNS`: changes of rounds, of sessions whose trails are full;
 //! - `workers FILE KEYS RUNS`: a fill by one client without a worker, and with one;
-//! - `memory`, `merges`, or `openings BATCHES TIMES`: a layer.
+//! - `merges`: merges of runs in memory.
 //!
-//! With `answers` the workloads are done in small, in memory, where their answers alone are looked at; with no words all layers are
+//! With `answers` the workloads are done in small, in memory, where their answers alone are looked at; with no words merges are
 //! measured before that.
 #![tactic(auto)]
 
@@ -16,9 +16,7 @@ mod clients;
 mod clock;
 mod keys;
 mod measuring;
-mod memtable;
 mod merging;
-mod openings;
 mod puts;
 mod raw;
 mod reads;
@@ -30,9 +28,7 @@ mod subject;
 mod workers;
 mod workloads;
 
-use crate::memtable::time_memory;
 use crate::merging::time_merges;
-use crate::openings::time_openings;
 use crate::runs::{check, compare};
 use crate::sizes::{FULL, Sizes};
 use crate::workloads::{BESIDE, KEPT, LOOKS, ROUNDS, WORKLOADS, Workload};
@@ -48,11 +44,6 @@ use std::thread::Threads;
 /// How many runs on a file are made, where no word says so.
 const RUNS: u32 = 5;
 
-/// How many batches are in the log of a store that is opened, and how often it is, where no word says so.
-const BATCHES: u32 = 200;
-
-const OPENINGS: u32 = 5;
-
 /// What is told of a refusal.
 pub(crate) fn told(refusal: Refusal) -> Error {
     Error::msg(refusal.name())
@@ -66,8 +57,8 @@ fn number(words: &[String], place: usize, default: u32) -> Result<u32> {
     }
 }
 
-/// Measures workloads on the file of the word behind the first, of so many keys as the next one says if it does, in a store that
-/// they leave half empty.
+/// Measures workloads on the file of the second word; if `has_keys`, of as many keys as the third says, in a store that they
+/// leave half empty.
 fn measure_named<R: Files<File = File> + Clock + Threads + Wait + Print + AllocGlobal + Sync>(
     rt: &R,
     words: &[String],
@@ -90,22 +81,18 @@ fn measure_named<R: Files<File = File> + Clock + Threads + Wait + Print + AllocG
     compare(rt, path, sizes, workloads, number(words, place, RUNS)?)
 }
 
-/// Measures what the words say, a layer or workloads on a file, or all layers where there is no word. It tells whether all answers
-/// were right.
+/// Measures what the words say, merges or workloads on a file, or merges and the answers of all workloads without a word. Returns
+/// whether all answers were right.
 fn measure<R: Files<File = File> + Clock + Threads + Wait + Print + Eprint + AllocGlobal + Sync>(
     rt: &R,
     words: &[String],
 ) -> Result<bool> {
     let Some(what) = words.first() else {
-        time_memory(rt)?;
         time_merges(rt)?;
-        time_openings(rt, BATCHES, OPENINGS)?;
         return check(rt);
     };
     match what.as_str() {
-        "memory" => time_memory(rt)?,
         "merges" => time_merges(rt)?,
-        "openings" => time_openings(rt, number(words, 1, BATCHES)?, number(words, 2, OPENINGS)?)?,
         "answers" => return check(rt),
         "upkeep" => return measure_named(rt, words, &KEPT, true),
         "gets" => return measure_named(rt, words, &LOOKS, true),

@@ -15,7 +15,7 @@ use std::rt::Clock;
 use std::sync::Wait;
 use std::thread::Threads;
 
-/// So many operations took so many nanoseconds, and so many of the wanted answers were right.
+/// The time of a number of operations, and how many of the wanted answers were right.
 #[derive(Clone, Copy)]
 pub(crate) struct Measured {
     pub(crate) operations: u32,
@@ -31,7 +31,7 @@ pub(crate) struct Measured {
 }
 
 impl Measured {
-    /// So many operations, of which nothing is measured yet, and as many answers are wanted.
+    /// `operations` operations, of which nothing is measured yet, and as many answers are wanted.
     fn of(operations: u32) -> Measured {
         Measured {
             operations,
@@ -45,7 +45,7 @@ impl Measured {
     }
 }
 
-/// Of so many gets how many are answered as they should be. Where the batches are too few or too many none is.
+/// How many of `count` gets are answered right. 0 where the store has another number of batches.
 fn right_of<D: Device + Drop>(
     subject: &mut Subject<D>,
     batches: u64,
@@ -129,7 +129,7 @@ fn read<R: Clock, D: Device + Drop>(
     Ok(measured)
 }
 
-/// Makes all puts and opens the store, so many times.
+/// Makes all puts and opens the store, `times` times.
 fn open<R: Clock + Threads + Sync, D: Device + Drop>(
     rt: &R,
     alloc: Global,
@@ -185,7 +185,7 @@ fn fill<R: Clock + Threads + Wait + Sync, D: Device + Drop + Send>(
     Ok(measured)
 }
 
-/// A session in which one client fills an empty store, alone or beside a worker, with all flushes and merges in the time. Its wait is
+/// A session in which one client fills an empty store, alone or with a worker, with all flushes and merges in the time. Its wait is
 /// the longest put.
 fn fill_beside<R: Clock + Threads + Wait + Sync, D: Device + Drop + Send>(
     rt: &R,
@@ -253,7 +253,7 @@ fn puts_of(sizes: Sizes, workload: Workload) -> Puts {
     }
 }
 
-/// What so many clients do in a session of a workload.
+/// What `clients` clients do in a session of a workload.
 fn task_of(sizes: Sizes, clients: u32, round: u8) -> Task {
     Task {
         clients,

@@ -38,7 +38,7 @@ fn input(alloc: Global) -> Result<Input, Refusal> {
     input_of(runs, cuts, true).ok_or(Refusal::BadTable)
 }
 
-/// The number of images of a merge in so many parts, and the nanoseconds.
+/// The number of images of a merge in `parts` parts, and the nanoseconds.
 fn merged<R: Threads + Clock + Sync>(
     rt: &R,
     alloc: Global,

@@ -22,7 +22,7 @@ pub(crate) struct Puts {
     pub(crate) upkeep: Upkeep,
     /// Whether the store is empty before.
     pub(crate) fresh: bool,
-    /// Whether that is measured too, and the store settled behind the last log.
+    /// Whether that is measured too, and the store settled after the last log.
     pub(crate) is_whole: bool,
     /// Whether every second key is deleted one log later.
     pub(crate) thins: bool,
@@ -116,7 +116,7 @@ fn fill_timed<R: Clock, D: Device>(
     Ok(())
 }
 
-/// Settles the store, and answers the nanoseconds. They are added where they are measured.
+/// Settles the store, and returns the nanoseconds. They are added where they are measured.
 fn settle_timed<R: Clock + Threads + Sync, D: Device>(
     rt: &R,
     alloc: Global,

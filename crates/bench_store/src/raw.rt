@@ -1,4 +1,4 @@
-//! The raw calls of a file that stand beside each workload.
+//! The raw calls of a file with which a workload is compared.
 
 use crate::clock::{now, since};
 use crate::measuring::Measured;
@@ -28,7 +28,7 @@ impl Drop for Raw {
     }
 }
 
-/// What is called so many times.
+/// What is called a number of times.
 #[derive(Clone, Copy)]
 enum Call {
     Sync,
@@ -38,13 +38,13 @@ enum Call {
     ReadBlock,
     /// A read of a block, at offsets that look random.
     ReadAnywhere,
-    /// Writes of so many sectors one by one, at growing offsets.
+    /// Writes of a number of sectors one by one, at growing offsets.
     Write(u32),
-    /// And a sync behind them.
+    /// And a sync after them.
     WriteSynced(u32),
 }
 
-/// Some calls, each so many times, and all of them so many times.
+/// Some calls, each a number of times, and all of them `times` times.
 #[derive(Clone, Copy)]
 struct Calls {
     calls: [(u32, Call); 3],
@@ -54,7 +54,7 @@ struct Calls {
 /// No calls.
 const NONE: (u32, Call) = (0, Call::Sync);
 
-/// The calls beside a workload. Each root is a manifest and a superblock of one sector each, both synced.
+/// The calls to compare a workload with. Each root is a manifest and a superblock of one sector each, both synced.
 fn calls_of(sizes: Sizes, work: Work, measured: Measured) -> Calls {
     let count = measured.operations;
     let written = measured.written;
@@ -106,7 +106,7 @@ fn sevens(alloc: Global) -> Result<Vec<u8>, Refusal> {
 }
 
 impl Raw {
-    /// A new file of so many sectors, written as the file of a store is.
+    /// A new file of `sectors` sectors, written as the file of a store is.
     pub(crate) fn create<R: Files<File = File>>(
         rt: &R,
         alloc: Global,
@@ -125,14 +125,14 @@ impl Raw {
         }
     }
 
-    /// The offset of a call of so many bytes at a place.
+    /// The offset of a call of `bytes` bytes at a place.
     fn offset(&self, place: u32, bytes: u32) -> u64 {
         let places = self.bytes / u64::from(bytes.max(1));
         let place = u64::from(place) % places.max(1);
         place.wrapping_mul(u64::from(bytes))
     }
 
-    /// Writes so many sectors from a place on.
+    /// Writes `sectors` sectors from a place on.
     fn write(&self, first: u32, sectors: u32) -> Result<(), Refusal> {
         let count = (SECTOR_BYTES as usize).min(self.buffer.len());
         for number in 0..sectors {
@@ -161,7 +161,7 @@ impl Raw {
         }
     }
 
-    /// Makes the call of a place among so many.
+    /// Makes a call at its place in the order.
     fn make(&mut self, call: Call, place: u32) -> Result<(), Refusal> {
         match call {
             Call::Sync => self.sync(),
@@ -187,7 +187,7 @@ impl Raw {
         Ok(())
     }
 
-    /// Makes the calls that a workload must make, and answers their nanoseconds.
+    /// Makes the calls that a workload must make, and returns their nanoseconds.
     pub(crate) fn measure<R: Clock>(
         &mut self,
         rt: &R,

@@ -15,7 +15,7 @@ pub(crate) enum Asked {
     Put,
     /// Of every second key that of a round, and of the others none.
     Thinned,
-    /// None, of keys behind those that were put.
+    /// None, of keys after those that were put.
     Nothing,
 }
 
@@ -29,7 +29,7 @@ fn finds<D: Device>(store: &mut Store<D>, number: u32, round: Option<u8>) -> Res
     }
 }
 
-/// Of so many gets, how many are answered as they should be.
+/// How many of `count` gets are answered right.
 pub(crate) fn count_right<D: Device>(
     store: &mut Store<D>,
     asked: Asked,
@@ -56,7 +56,7 @@ fn is_value(value: &[u8], key: &[u8], round: u8) -> bool {
     value.len() == 100 && value.starts_with(key) && value[99] == round
 }
 
-/// Reads the page from a key on. It answers how many rows have the value of a round, and where the next page begins.
+/// Reads the page from a key on. Returns how many rows have the value of a round, and where the next page begins.
 fn read_page<D: Device>(
     store: &mut Store<D>,
     from: &[u8; 16],
@@ -79,7 +79,7 @@ fn read_page<D: Device>(
     }
 }
 
-/// Scans the whole map so often. It answers how many pages were read, and how many rows have the value of a round.
+/// Scans the whole map `times` times. Returns how many pages were read, and how many rows have the value of a round.
 pub(crate) fn scan<D: Device>(
     store: &mut Store<D>,
     times: u32,

@@ -27,7 +27,7 @@ enum Figure {
     Aim,
     /// The microseconds that a put waits at most, or a change of rounds takes.
     Wait,
-    /// The blocks that tables hold behind a load.
+    /// The blocks that tables hold after a load.
     Held,
     /// The bytes that were given to write calls for each byte of the keys and values that were put, in thousandths, of tables alone and
     /// of logs and roots too.
@@ -87,7 +87,7 @@ fn figure_of(sample: &Sample, figure: Figure) -> u64 {
     number / of.max(1)
 }
 
-/// The middle one of some numbers, 0 where there is none.
+/// The median of some numbers, 0 where there is none.
 pub(crate) fn median(mut numbers: Vec<u64>) -> Result<u64, AllocError> {
     numbers.sort()?;
     let middle = numbers.get(numbers.len() / 2);
@@ -110,7 +110,7 @@ fn middle(
     median(numbers)
 }
 
-/// Adds a figure in a column. A ratio has two places behind the point.
+/// Adds a figure in a column. A ratio has two places after the point.
 fn push_figure(text: &mut String, figure: Figure, number: u64) -> Result<(), AllocError> {
     match figure {
         Figure::Ratio | Figure::Aim | Figure::InTables | Figure::InAll => {

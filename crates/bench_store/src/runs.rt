@@ -15,7 +15,7 @@ use std::rt::Clock;
 use std::sync::Wait;
 use std::thread::Threads;
 
-/// Does all workloads, each with its raw calls behind it where there is a file for them, and adds what is measured.
+/// Does all workloads, each followed by its raw calls where there is a file for them, and adds what is measured.
 fn run<R: Clock + Threads + Wait + Sync, D: Device + Drop + Send>(
     rt: &R,
     alloc: Global,
@@ -87,7 +87,7 @@ pub(crate) fn check<R: Clock + Threads + Wait + Print + AllocGlobal + Sync>(
     Ok(right)
 }
 
-/// A run on a new file, with the raw calls on a file beside it.
+/// A run on a new file, with the raw calls on a second one.
 fn run_on<R: Files<File = File> + Clock + Threads + Wait + Sync>(
     rt: &R,
     alloc: Global,
@@ -102,8 +102,8 @@ fn run_on<R: Files<File = File> + Clock + Threads + Wait + Sync>(
     run(rt, alloc, &mut subject, sizes, workloads, samples)
 }
 
-/// Makes so many runs on the file of a path, with the raw calls on a file beside it, and prints what they measured. It tells
-/// whether all answers were right.
+/// Makes `runs` runs on the file of a path, with the raw calls on the file `.raw` next to it, and prints what they measured.
+/// Returns whether all answers were right.
 pub(crate) fn compare<R: Files<File = File> + Clock + Threads + Wait + Print + AllocGlobal + Sync>(
     rt: &R,
     path: &str,

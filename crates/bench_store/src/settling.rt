@@ -8,7 +8,7 @@ use lsm_store::{Store, TakenJob};
 use std::alloc::Global;
 use std::thread::Threads;
 
-/// From so many runs on, and above so many blocks of levels 1 to 3, jobs come next.
+/// From this number of runs on, and above these numbers of blocks of levels 1 to 3, jobs come next.
 const RUNS: usize = 4;
 
 const LIMITS: [u32; 3] = [256, 2_048, 16_384];
@@ -60,7 +60,7 @@ impl Written {
         in_roots: 0,
     };
 
-    /// Counts a root that names so many tables, and three logs at most: a superblock, and a manifest of 20 bytes a table.
+    /// Counts a root that names `tables` tables, and three logs at most: a superblock, and a manifest of 20 bytes a table.
     fn add_root(&mut self, tables: usize) {
         let manifest = tables.saturating_mul(20).saturating_add(83).div_ceil(512);
         let sectors = u32::try_from(manifest).unwrap_or(0).saturating_add(1);

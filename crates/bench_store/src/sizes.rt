@@ -9,7 +9,7 @@ pub(crate) const LOG_SECTORS: u16 = 2_048;
 /// How many blocks of tables the cache keeps: all that a run has.
 pub(crate) const CACHE: u32 = 4_096;
 
-/// The bytes of a block of a table, and of a raw read beside a get or a scan.
+/// The bytes of a block of a table, and of the raw read for a get or a scan.
 pub(crate) const BLOCK_BYTES: u32 = 4_096;
 
 /// The bytes of a key and its value.
@@ -27,7 +27,7 @@ pub(crate) struct Sizes {
     pub(crate) keys: u32,
     /// The puts that are committed and synced one by one, by the caller or by the clients of a session.
     pub(crate) synced: u32,
-    /// The puts that a log has when a store is opened, or where one client fills it beside a worker; and those of all clients of a
+    /// The puts that a log has when a store is opened, or where one client fills it with a worker; and those of all clients of a
     /// session.
     pub(crate) logged: u32,
     /// How often the whole map is scanned.

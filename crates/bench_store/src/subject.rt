@@ -1,4 +1,4 @@
-//! What is measured: a store, and a file of raw calls beside it.
+//! What is measured: a store, and a file for its raw calls.
 
 use crate::clients::{Task, Times, shared_by};
 use crate::clock::{now, since};
@@ -13,7 +13,8 @@ use std::rt::Clock;
 use std::sync::Wait;
 use std::thread::Threads;
 
-/// A store on a device, and the file beside it where there is one. There is no store once an opening or a session was refused.
+/// A store on a device, and the file for its raw calls where there is one. There is no store once an opening or a session was
+/// refused.
 pub(crate) struct Subject<D: Device> {
     pub(crate) store: Option<Store<D>>,
     pub(crate) raw: Option<Raw>,
@@ -26,7 +27,7 @@ impl<D: Device + Drop> Drop for Subject<D> {
     }
 }
 
-/// Opens the store on a device, with a cache of so many blocks.
+/// Opens the store on a device, with a cache of `cache` blocks.
 fn opened<D: Device + Drop>(alloc: Global, device: D, cache: u32) -> Result<Store<D>, Refusal> {
     match Store::open(alloc, device, cache) {
         Ok(store) => Ok(store),
@@ -43,7 +44,7 @@ fn fresh<D: Device + Drop>(alloc: Global, device: D) -> Result<Store<D>, Refusal
 }
 
 impl<D: Device + Drop> Subject<D> {
-    /// An empty store on a device, beside such a file.
+    /// An empty store on a device, with such a file.
     pub(crate) fn on(alloc: Global, device: D, raw: Option<Raw>) -> Result<Subject<D>, Refusal> {
         let store = Some(fresh(alloc, device)?);
         Ok(Subject { store, raw })
@@ -57,7 +58,7 @@ impl<D: Device + Drop> Subject<D> {
         }
     }
 
-    /// Makes all batches outlast a crash.
+    /// Makes all batches durable.
     fn sync(&mut self) -> Result<(), Refusal> {
         match &mut self.store {
             Some(store) => store.sync(),
@@ -80,7 +81,7 @@ impl<D: Device + Drop> Subject<D> {
         Ok(())
     }
 
-    /// Syncs the store, closes it, and opens it again with an empty cache of so many blocks. It answers the nanoseconds of the
+    /// Syncs the store, closes it, and opens it again with an empty cache of `cache` blocks. Returns the nanoseconds of the
     /// opening.
     pub(crate) fn reopen<R: Clock>(
         &mut self,
@@ -109,7 +110,7 @@ impl<D: Device + Drop + Send> Subject<D> {
         }
     }
 
-    /// Settles the store, and lets clients share it. It answers what was measured of the session.
+    /// Settles the store, and lets clients share it. Returns what was measured of the session.
     pub(crate) fn share<R: Threads + Wait + Clock + Sync>(
         &mut self,
         rt: &R,

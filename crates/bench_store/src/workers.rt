@@ -1,4 +1,4 @@
-//! A client that puts many keys, alone or beside a worker. Alone it does the flushes and merges itself, after each of its rotations.
+//! A client that puts many keys, alone or with a worker. Alone it does the flushes and merges itself, after each of its rotations.
 
 use crate::clients::Task;
 use crate::clock::{now, since};
@@ -27,7 +27,7 @@ const PARTS: u8 = 1;
 /// How many microseconds a worker sleeps that found nothing to do.
 const NAP: u64 = 100;
 
-/// So many puts of the numbers from 0 on, in a round. A log takes so many of them.
+/// `puts` puts of the numbers from 0 on, in a round. A log takes `in_log` of them.
 #[derive(Clone, Copy)]
 pub(crate) struct Filling {
     pub(crate) puts: u32,
@@ -127,7 +127,7 @@ fn put<D: Device, B: SessionName, R: Threads + Wait + Sync>(
     }
 }
 
-/// Makes all puts, until one is refused, and empties the last log. It answers the most nanoseconds that one took.
+/// Makes all puts, until one is refused, and empties the last log. Returns the most nanoseconds that one took.
 fn put_all<D: Device, B: SessionName, R: Threads + Wait + Clock + Sync>(
     rt: &R,
     alloc: Global,

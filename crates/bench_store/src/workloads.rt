@@ -13,7 +13,7 @@ pub(crate) enum Guarding {
     InMemory,
 }
 
-/// How puts are committed: so many in a batch, and each batch synced or not.
+/// How puts are committed: `puts` in a batch, and each batch synced or not.
 #[derive(Clone, Copy)]
 pub(crate) struct Way {
     pub(crate) puts: u32,
@@ -41,13 +41,13 @@ pub(crate) enum Work {
     Scan,
     /// Opens a store that has batches in its log.
     Reopen,
-    /// So many clients of one session commit batches of one put, each client in a thread of its own.
+    /// A number of clients of one session commit batches of one put, each client in a thread of its own.
     Share(u32),
     /// And sync each of them.
     ShareSynced(u32),
-    /// So many clients fill the trail of one session: each asks for a value 39 times, and then puts one.
+    /// A number of clients fill the trail of one session: each asks for a value 39 times, and then puts one.
     Fill(u32),
-    /// One client of a session fills an empty store, alone or beside a worker, with all rotations, flushes and merges in the time.
+    /// One client of a session fills an empty store, alone or with a worker, with all rotations, flushes and merges in the time.
     Beside { has_worker: bool },
 }
 
@@ -103,7 +103,7 @@ const IN_MEMORY: Way = Way {
     guarding: Guarding::InMemory,
 };
 
-/// The workloads that are measured beside raw calls. Each value that a workload puts says in which of them it was put.
+/// The workloads that are compared with raw calls. Each value that a workload puts says in which of them it was put.
 pub(crate) const WORKLOADS: [Workload; 18] = [
     Workload {
         name: "fill",
