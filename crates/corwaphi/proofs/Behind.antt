@@ -1,4 +1,4 @@
--- The pairs of a map behind a page of them.
+-- The pairs of a map after a page of them.
 use Rattle.std.proofs.Common.{◌≡◌, ℕ, zero, suc, Bool, true, false, ◌&&◌, cond, List, [], ◌∷◌, ◌++◌, take, drop, filter, Option, Some, None, refl, sym, ap, subst, ◌∙◌}
 use Rattle.std.specs.Prelude.{T}
 use Rattle.std.specs.List.{AllByRecursion}
@@ -133,7 +133,7 @@ above_both from key (e ∷ es) le h = (at_most_below from key e.0 le h.0, above_
 itself : (key : Bytes) → is_le (byte_order key key) ≡ true
 itself key = ap is_le (is_eq_Equal (byte_order key key) (key_itself key))
 
--- behind so many pairs from a key on stand those from the key that comes next
+-- after the first n pairs from a key on come those from the next key
 goes_on : (from k : Bytes) (n : ℕ) (es : Pairs) → Rise es → first_key (drop n (from_on from es)) ≡ Some k → from_on k es ≡ drop n (from_on from es)
 goes_on from k zero [] h e = refl
 goes_on from k (suc n) [] h e = refl
@@ -157,13 +157,13 @@ goes_on from k n (x ∷ es) h e = by (is_le (byte_order from x.0)) n refl (λ m 
         let here = ap (λ (t : Pairs). first_key (drop n t)) (sym rest) ∙ first in
         left_out k x es (far x.0 from k n es h.0 here) ∙ later n here ∙ ap (drop n) (sym rest)
 
--- ---- a page, and what comes behind it
+-- ---- a page, and what comes after it
 
 none_first : (es : Pairs) → first_key es ≡ None → es ≡ []
 none_first [] e = refl
 none_first (x ∷ es) e = cc
 
--- the pairs of a range behind so many, where this key is the first of them
+-- the pairs of a range after the first n, where this key is the first of them
 pairs_on : (m : Map) (from k : Bytes) (to : Option Bytes) (n : ℕ) → first_key (drop n (pairs_in m from to)) ≡ Some k → pairs_in m k to ≡ drop n (pairs_in m from to)
 pairs_on m from k to n first =
     let splits = range_splits from to (finite.entries m) in
@@ -175,13 +175,13 @@ behind : (m : Map) (from : Bytes) (to : Option Bytes) (n : ℕ) (next : Option B
 behind m from to n (Some k) first = pairs_on m from k to n first
 behind m from to n None first = sym (none_first (drop n (pairs_in m from to)) first)
 
--- a page, and the pairs from the key behind it, are all pairs of the range
+-- a page, and the pairs from the key after it, are all pairs of the range
 pub page_and_rest : (m : Map) (from : Bytes) (to : Option Bytes) (n : ℕ) (page : Page) → page ≡ page_of m from to n → page.rows ++ pairs_from m page.next to ≡ pairs_in m from to
 page_and_rest m from to n page is =
     subst (λ (p : Page). p.rows ++ pairs_from m p.next to ≡ pairs_in m from to) (sym is)
     (ap (λ (l : Pairs). take n (pairs_in m from to) ++ l) (behind m from to n (first_key (drop n (pairs_in m from to))) refl) ∙ take-append-drop n (pairs_in m from to))
 
--- so a page without a row has none behind it
+-- so a page without a row has none after it
 pub none_behind : (m : Map) (from : Bytes) (to : Option Bytes) (n : ℕ) (page : Page) → page ≡ page_of m from to (suc n) → page.rows ≡ [] → pairs_from m page.next to ≡ []
 none_behind m from to n page is none =
     let empty = empties (pairs_in m from to) (sym (ap (λ (p : Page). p.rows) is) ∙ none) in

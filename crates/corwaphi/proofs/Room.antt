@@ -2,7 +2,7 @@
 use Rattle.std.proofs.Common.{◌≡◌, ◌+◌, ◌*◌, ◌/◌, ◌%◌, ◌<◌, ◌≤◌, ℕ, arith}
 use Rattle.std.proofs.lemmas.Nat.{div-add-mod', le-div, mod_below, mul-le, mul-add-lt}
 
--- rows of so many bytes fit into as many blocks as there are when each has all that it has room for
+-- rows of `entry` bytes fit into as many blocks as there are when each has all that it has room for
 pub room : (rows entry : ℕ) → 12 ≤ entry → entry ≤ 2315 → rows * entry ≤ 4094 * (rows / (4094 / entry) + 1)
 room rows entry some small = by (4094 / entry) (div-add-mod' 4094 entry) (le-div 1 4094 entry (omega (arith, some)) (omega (arith, small)))
   where

@@ -19,7 +19,7 @@ abbrev pub pair_of : Row → Bytes × Bytes
 pair_of row = (row.key.items, row.value.items)
 
 -- Where the rows of a range stand, over a store: the map that is asked, the rows that were read and not told yet, the key with which the
--- next page begins, none behind the last page, and the key where the range ends, which is outside.
+-- next page begins, none after the last page, and the key where the range ends, which is outside.
 pub record Standing : Type 0 where
   pub store : StoreView
   pub at : At
@@ -31,7 +31,7 @@ pub record Standing : Type 0 where
 abbrev pub stands_before : At → Bytes → Option Bytes → StoreView → Standing
 stands_before at from to store = record { store = store; at = at; unread = []; from = Some from; to = to }
 
--- the rows behind the first so many of the page that was read last
+-- the rows after the first n of the page that was read last
 abbrev pub rows_behind : ℕ → Option Page → List (Bytes × Bytes)
 rows_behind told (Some page) = drop told page.rows
 rows_behind told None = []
@@ -101,8 +101,8 @@ pub record TellsRow (old : Standing) (row : Row) (new : Standing) : Type 0 where
   pub first : mid.unread ≡ pair_of row ∷ new.unread
   pub becomes : new ≡ record mid { unread = new.unread }
 
--- What asking for the next row does. It tells the first of the rows that were read; none where no row was left behind the last page; and
--- it is refused as the scan of the page is, or for want of memory for the copy of the row.
+-- What asking for the next row does. It tells the first of the rows that were read; none where no row was left after the last page; and
+-- it fails as the scan of the page, or with NoMemory for the copy of the row.
 abbrev pub TellsNextRow : Standing → Result (Option Row) Refusal → Standing → Type 0
 TellsNextRow old (Ok (Some row)) new = TellsRow old row new
 TellsNextRow old (Ok None) new = HasRead old new × (new.unread ≡ [])
@@ -142,7 +142,7 @@ as_told (Some (Err e)) = Err e
 as_told None = Ok None
 
 module _ {D : Type 0} where
-  -- The next row was asked for, where more than one call was left. The last call tells Exhausted, and from then on there is none.
+  -- The next row was asked for, where more than one call was left. The last call tells Exhausted, and from then on it gives none.
   pub record GivesNext (old : RangeRows D) (item : Option (Result Row Refusal)) (new : RangeRows D) : Type 0 where
     pub same_store : lender new ≡ lender old
     pub asks : 1 < calls_left old → AsksRow (standing old) (as_told item) (standing new)

@@ -24,7 +24,7 @@ operations_of None = []
 
 -- ---- writes
 
--- An operation waits now: behind those that did; or these were committed, and it waits alone.
+-- An operation waits now: after those that did; or these were committed, and it waits alone.
 abbrev pub Buffers : Operation → Buffered → Buffered → Type 0
 Buffers operation old new = ((new.store ≡ old.store) × (new.waiting ≡ old.waiting ++ operation ∷ []))
     ⊎ ((number : ℕ) × Writes None old.waiting old.store (Number number) new.store × (new.waiting ≡ operation ∷ []))
@@ -88,7 +88,7 @@ taken (Ok done) = Ok true
 taken (Err BatchTooBig) = Ok false
 taken (Err e) = Err e
 
--- An operation stands behind the others now, or nothing has changed; it is refused for what it is, or for want of memory.
+-- An operation comes after the others now, or nothing has changed; it is refused for what it is, or for want of memory.
 abbrev pub Takes : Option Refusal → Operation → List Operation → Result Bool Refusal → List Operation → Type 0
 Takes refusal operation old (Ok true) new = new ≡ old ++ operation ∷ []
 Takes refusal operation old (Ok false) new = new ≡ old

@@ -10,14 +10,14 @@ use Rattle.lsm_store.specs.Serving.{OpensTo, ReopensTo}
 use Rattle.lsm_upkeep.specs.Steps.{IsUpkept}
 use Rattle.corwaphi.specs.Upkeep.{IsReadied}
 
--- The store on a device was opened, with a cache of so many blocks: of what a crash left it is the one that was. Then it was readied, which
+-- The store on a device was opened, with a cache of `cache` blocks: of what a crash left it is the one that was. Then it was readied, which
 -- is upkeep.
 pub record OpensDb (cache : ℕ) (before : Medium) (new : StoreView) : Type 0 where
   pub opened : StoreView
   pub reopens : ReopensTo before opened
   pub opens : (log_sectors : ℕ) (left : CrashState) → IsTrue before.lasting.tells → StandFor log_sectors left (seen (disk before)) → OpensTo before log_sectors left opened
   pub cached : opened.cache ≡ record { blocks = []; capacity = cache; refusals = 0 }
-  -- no call of the device faulted in the opening, which made so many calls at most
+  -- no call of the device faulted in the opening, which made at most these calls
   pub no_fault : opened.device.calls.faults ≡ before.calls.faults
   pub calls : AtMost 587842 42 3 before.calls opened.device.calls
   pub same_size : opened.device.size ≡ before.size
@@ -29,6 +29,6 @@ pub record OpensDb (cache : ℕ) (before : Medium) (new : StoreView) : Type 0 wh
 abbrev pub WasOpened : ℕ → StoreView → Type 0
 WasOpened cache s = (before : Medium) × (before.calls ≡ no_calls) × OpensDb cache before s
 
--- So it was on a device of so many sectors, on which it was made.
+-- So it was on a device of this number of sectors, on which it was made.
 abbrev pub WasMade : ℕ → ℕ → StoreView → Type 0
 WasMade sectors cache s = (before : Medium) × (before.size ≡ sectors) × OpensDb cache before s

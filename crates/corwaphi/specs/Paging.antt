@@ -9,7 +9,7 @@ use Rattle.lsm_machine.specs.Calls.{Reply, Number, Rows, Refused, Release, Scan,
 use Rattle.lsm_store.specs.Serving.{Serves}
 use Rattle.lsm_machine.specs.declared.asked.At.TheVariants.{Snap}
 
--- rows of one map, that of a snapshot: from the key with which the next page begins, none behind the last page, up to this one, which is
+-- rows of one map, that of a snapshot: from the key with which the next page begins, none after the last page, up to this one, which is
 -- outside. The snapshot is held up to the last page.
 pub record Pages : Type 0 where
   pub snapshot : ℕ
@@ -46,7 +46,7 @@ abbrev pub TellsNext : Pages → Option Page → Pages → StoreView → StoreVi
 TellsNext old (Some page) new before after = TellsPage old page new before after
 TellsNext old None new before after = (old.from ≡ None) × (new ≡ old) × (after ≡ before)
 
--- A page was refused, or there was no memory for the key behind it. It may be asked for again.
+-- A page was refused, or there was no memory for the key after it. It may be asked for again.
 pub record StaysThere (old : Pages) (refusal : Refusal) (new : Pages) (before after : StoreView) : Type 0 where
   pub key : Bytes
   pub begins : old.from ≡ Some key

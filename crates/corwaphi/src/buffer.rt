@@ -9,7 +9,7 @@ use lsm_codec::{Batch, Op, OpRef, Operations};
 use lsm_device::Refusal;
 use std::alloc::Global;
 
-/// A batch with so many bytes of text is full: then a commit of it is cheap for each of its operations, and a look at each of them is too.
+/// A batch with this number of bytes of text is full: a commit of it is then cheap for each of its operations, and so is a look at each.
 const FULL: usize = 16_384;
 
 /// A batch of one operation.
@@ -19,7 +19,7 @@ pub(crate) fn begun(alloc: Global, operation: Op) -> Result<Batch, Refusal>
     Batch::new(alloc, operation)
 }
 
-/// Adds a put to a batch, and tells whether it took that: there may be none, or it is full.
+/// Adds a put to a batch. Returns whether it was added: not where there is no batch, or it is full.
 pub(crate) fn took_put(batch: &mut Option<Batch>, key: &[u8], value: &[u8]) -> Result<bool, Refusal>
     ensures { Takes (or_then (key_refusal key.now) (value_refusal value.now)) (record { key = key.now; value = Some value.now }) (operations_of batch.old) result (operations_of batch.new) }
 {
@@ -29,7 +29,7 @@ pub(crate) fn took_put(batch: &mut Option<Batch>, key: &[u8], value: &[u8]) -> R
     }
 }
 
-/// Adds a delete to a batch, and tells whether it took that: there may be none, or it is full.
+/// Adds a delete to a batch. Returns whether it was added: not where there is no batch, or it is full.
 pub(crate) fn took_delete(batch: &mut Option<Batch>, key: &[u8]) -> Result<bool, Refusal>
     ensures { Takes (key_refusal key.now) (record { key = key.now; value = None }) (operations_of batch.old) result (operations_of batch.new) }
 {
@@ -39,7 +39,7 @@ pub(crate) fn took_delete(batch: &mut Option<Batch>, key: &[u8]) -> Result<bool,
     }
 }
 
-// Whether an operation was added. Want of room in the batch is no refusal.
+// Whether an operation was added. A full batch is no error.
 fn told(added: Result<(), Refusal>) -> Result<bool, Refusal>
     ensures { result ≡ taken added }
 {

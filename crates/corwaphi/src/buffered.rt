@@ -15,8 +15,8 @@ use lsm_codec::{Batch, Op};
 use lsm_device::{Device, Refusal};
 use std::marker::Model;
 
-/// A store whose puts and deletes wait in memory until they are worth a commit, which brings all of them at once: for who writes much, and
-/// needs no number for each write. A hundred small puts take some 26 sectors of the log so, and else a hundred.
+/// A store whose puts and deletes wait in memory until they are worth a commit, which brings all of them at once: for callers that write
+/// much and need no sequence number for each write. A hundred small puts take some 26 sectors of the log so, and else a hundred.
 ///
 /// What waits is in no file: it is lost if the program ends before [`commit`](BufferedDb::commit) or [`sync`](BufferedDb::sync), not only in
 /// a power cut. A commit comes by itself where some 16 KiB wait. What waits is committed whole or not at all, and [`get`](BufferedDb::get)
@@ -53,9 +53,9 @@ impl<D: Device> BufferedDb<D> {
         BufferedDb { db, waiting: None }
     }
 
-    /// Puts a value under a key. It is refused with `BadKey` for a key outside 1 to 255 bytes, with `BadValue` for a value above 2,048 bytes,
-    /// and with `NoMemory`; and as [`Db::write`] is where what waits was to be committed before. It doesn't wait then, and the others wait
-    /// still.
+    /// Puts a value under a key. Fails with `BadKey` for a key outside 1 to 255 bytes, with `BadValue` for a value above 2,048 bytes, and
+    /// with `NoMemory`; and as [`Db::write`] where what waits was to be committed before. The put doesn't wait then, and the others still
+    /// do.
     pub fn put(&mut self, key: &[u8], value: &[u8]) -> Result<(), Refusal>
         ensures { MatchResult result
             (λ _. Buffers (record { key = key.now; value = Some value.now }) self.old self.new)
@@ -68,8 +68,8 @@ impl<D: Device> BufferedDb<D> {
         self.begin(operation)
     }
 
-    /// Deletes a key. It is refused with `BadKey` for a key outside 1 to 255 bytes, with `NoMemory`, and as [`Db::write`] is where what waits
-    /// was to be committed before. It doesn't wait then, and the others wait still.
+    /// Deletes a key. Fails with `BadKey` for a key outside 1 to 255 bytes, with `NoMemory`, and as [`Db::write`] where what waits was to
+    /// be committed before. The delete doesn't wait then, and the others still do.
     pub fn delete(&mut self, key: &[u8]) -> Result<(), Refusal>
         ensures { MatchResult result
             (λ _. Buffers (record { key = key.now; value = None }) self.old self.new)
@@ -82,7 +82,7 @@ impl<D: Device> BufferedDb<D> {
         self.begin(operation)
     }
 
-    // Has an operation wait alone, behind a commit of those that do.
+    // Has an operation wait alone, after a commit of those that do.
     fn begin(&mut self, operation: Op) -> Result<(), Refusal>
         ensures { MatchResult result
             (λ _. Buffers operation self.old self.new)
@@ -94,8 +94,8 @@ impl<D: Device> BufferedDb<D> {
         Ok(())
     }
 
-    /// Commits what waits as one batch, and answers its number; where nothing waits, that of the last batch. It is refused as [`Db::write`]
-    /// is, and what waits goes on to wait. After `Io` a crash may leave it.
+    /// Commits what waits as one batch, and returns its sequence number; where nothing waits, that of the last batch. Fails as
+    /// [`Db::write`], and what waits goes on to wait. After `Io` a crash may leave it.
     pub fn commit(&mut self) -> Result<u64, Refusal>
         ensures { Commits self.old (reply_of Number result) self.new }
     {
@@ -107,7 +107,7 @@ impl<D: Device> BufferedDb<D> {
         Ok(number)
     }
 
-    /// Commits what waits, and makes all batches outlast a crash. It is refused as [`commit`](BufferedDb::commit) and [`Db::sync`] are.
+    /// Commits what waits, and makes all batches durable. Fails as [`commit`](BufferedDb::commit) and [`Db::sync`].
     pub fn sync(&mut self) -> Result<(), Refusal>
         ensures { Syncs self.old (reply_of (λ _. Done) result) self.new }
     {
@@ -115,8 +115,8 @@ impl<D: Device> BufferedDb<D> {
         self.db.sync()
     }
 
-    /// The value of a key, with what waits; or none where it has none. It goes over all that waits. Where an operation on the key waits, it is
-    /// refused with `NoMemory` alone; else as [`Db::get`] is.
+    /// The value of a key, `None` where it has none, with what waits, all of which is searched. Where an operation on the key waits, it
+    /// fails only with `NoMemory`; else as [`Db::get`].
     pub fn get(&mut self, key: &[u8]) -> Result<Option<Vec<u8>>, Refusal>
         ensures waiting { (operation : Operation) → last_on key.now self.old.waiting ≡ Some operation
             → (self.new ≡ self.old) × UnlessNoMemory result (λ value. option_map (λ v. v.items) value ≡ operation.value) }
@@ -129,7 +129,7 @@ impl<D: Device> BufferedDb<D> {
         }
     }
 
-    /// The store, and what waits: for reads of rows and all else that a [`Db`] does, behind a commit.
+    /// The store, and what waits: to read rows and for all else that a [`Db`] does, after a commit.
     pub fn into_parts(self) -> (Db<D>, Option<Batch>)
         ensures store { result.0 ≡ self.store }
         ensures waiting { operations_of result.1 ≡ self.waiting }

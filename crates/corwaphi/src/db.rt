@@ -35,11 +35,11 @@ use lsm_upkeep::{Upkeep, compact_all, keep_up, write};
 use std::alloc::Global;
 use std::marker::Model;
 
-/// A store with no duties: an ordered map from keys to values on a device, that makes room by itself.
+/// A store that makes room by itself: an ordered map from keys to values on a device.
 ///
-/// Keys have 1 to 255 bytes and values at most 2,048. What was written is durable from the next sync on. After a write or a sync of
-/// the device has failed every call that can be refused answers `Stopped`; the device ([`into_device`](Db::into_device)) is to be opened
-/// again. Contracts see it as the store that it is.
+/// Keys have 1 to 255 bytes and values at most 2,048. The next sync makes what was written durable. After a write or a sync of the
+/// device has failed every call that can fail returns `Stopped`; then open the device ([`into_device`](Db::into_device)) again.
+/// Contracts see it as the store that it is.
 pub struct Db<D: Device> {
     alloc: Global,
     store: Store<D>,
@@ -73,14 +73,14 @@ impl<D: Device> Db<D> {
     /// Opens the store on a device, also after a crash, with the cache that the options say. A flush that waits is finished, and a log is
     /// opened where none is open, as far as there is room and memory for it: so openings with writes between them go on for ever.
     ///
-    /// It is refused as `Store::open` is, with an error that holds refusal and device: with `BadLimit` for a cache outside 1 to 4,096 blocks, with
+    /// Fails as `Store::open`, with an error that holds refusal and device: with `BadLimit` for a cache outside 1 to 4,096 blocks, with
     /// `BadGeometry` for a device of another size than its store or outside the limits, with `NoMemory` and `Io`, and with `NotAStore`,
     /// `BadSuper`, `BadManifest`, `BadTable` or `Exhausted` for what the device holds.
     pub fn on<R: AllocGlobal>(rt: &R, device: D, options: Options) -> Result<Db<D>, OpenOnError<D>>
         ensures opens { IfOk result (λ db. OpensDb options.cache (D.medium device) db) }
 
-        // Where it is refused: with BadLimit for the cache before any device call, and else with what refuses an opening, which is what
-        // the device holds, or want of memory, or a fault. Nothing that a crash left is lost then.
+        // Where it fails: with BadLimit for the cache before any device call, and else with what an opening fails with, for what the
+        // device holds, NoMemory or Io. Nothing that a crash left is lost then.
         ensures size { IsTrue (is_cache_size options.cache) → (IsDeviceSize (D.medium device).size → ⊥) → result ≡ Err (record { refusal = Refusal.BadGeometry; device = device }) }
         ensures cache { is_cache_size options.cache ≡ false → result ≡ Err (record { refusal = Refusal.BadLimit; device = device }) }
         ensures refused { IsTrue (is_cache_size options.cache) → IfErr result (λ e. IsOpeningRefusal e.refusal) }
@@ -90,7 +90,7 @@ impl<D: Device> Db<D> {
         ensures fails { IsTrue (is_cache_size options.cache) → (log_sectors : ℕ) (left : CrashState) → IsTrue (D.medium device).lasting.tells → StandFor log_sectors left (seen (disk (D.medium device)))
             → IfErr result (λ e. FailsToOpen (D.medium device) log_sectors left e.refusal (D.medium e.device)) }
 
-        // A refusal is Io exactly where a device call faulted. It comes before any device call, or behind a sync as the first one.
+        // The error is Io exactly where a device call faulted. It comes before any device call, or after a sync as the first one.
         ensures faults { IfErr result (λ e. (D.medium e.device).calls.faults ≡ faults_after (is_no_fault e.refusal) (D.medium device).calls.faults) }
         ensures called { IsTrue (is_cache_size options.cache) → IsDeviceSize (D.medium device).size
             → IfErr result (λ e. IsUncalled e.refusal (D.medium device) (D.medium e.device) ⊎ IsRefusedBehindSync (D.medium device) e.refusal (D.medium e.device)) }
@@ -113,25 +113,25 @@ impl<D: Device> Db<D> {
         }
     }
 
-    /// Adds a batch, whole or not at all, and answers its number. It outlasts a crash from the next sync on.
+    /// Adds a batch, whole or not at all, and returns its sequence number. The next sync makes it durable.
     ///
-    /// A batch is taken only where what it makes of its keys will find room in tables. Where it lacks, tables are brought down first, and where
-    /// the log has no room another one is opened; so it may take longer, and sync. It is refused with `Stopped`; with `NoSpace` where it
-    /// puts values that find no room though all tables were brought down as far as they go, or where no log with room could be opened; with
-    /// `Exhausted` where 2^63 batches were added; with `NoMemory`; and with `Io`. Of these only `Io` stops the store. A refused batch is not
-    /// there, but after `Io` a crash may leave it. A batch of deletes finds room, unless a snapshot is live.
+    /// A batch is taken only where its entries will find room in tables. Where room lacks, tables are merged down first, and where the log
+    /// has no room another one is opened; so it may take longer, and sync. Fails with `Stopped`; with `NoSpace` where it puts values that
+    /// find no room though all tables were merged down as far as they go, or where no log with room could be opened; with `Exhausted` where
+    /// 2^63 batches were added; with `NoMemory`; and with `Io`. Of these only `Io` stops the store. A refused batch is not there, but after
+    /// `Io` a crash may leave it. A batch of deletes finds room, unless a snapshot is live.
     pub fn write(&mut self, batch: &Batch) -> Result<u64, Refusal>
         ensures writes { Writes None batch.now self.old (reply_of Number result) self.new }
     {
         write(self.alloc, &mut self.store, &mut self.upkeep, None, batch)
     }
 
-    /// Adds a batch where the present map meets each of these guards, and answers its number. They are asked in the commit that counts,
-    /// behind all that is done to make room.
+    /// Adds a batch where the present map meets each of these guards, and returns its sequence number. They are tested in the commit
+    /// itself, after all that is done to make room.
     ///
-    /// It is refused as [`write`](Db::write) is; with `TooManyGuards` for more than 16; with `GuardFailed` and the place of the first
-    /// guard that is false, counted from 0; and with `Io` or `BadTable` for a read, which leaves the store running. `NoSpace` comes
-    /// before the guards are asked.
+    /// Fails as [`write`](Db::write); with `TooManyGuards` for more than 16; with `GuardFailed` and the place of the first guard that
+    /// is false, counted from 0; and with `Io` or `BadTable` for a read, which leaves the store running. `NoSpace` comes before the
+    /// guards are tested.
     pub fn write_if(&mut self, guards: &[Guard], batch: &Batch) -> Result<u64, Refusal>
         ensures writes { Writes (Some guards.now) batch.now self.old (reply_of Number result) self.new }
     {
@@ -144,34 +144,33 @@ impl<D: Device> Db<D> {
         )
     }
 
-    /// Puts a value under a key, and answers the number of the batch. It is refused with `BadKey` for a key outside 1 to 255 bytes, with
-    /// `BadValue` for a value above 2,048 bytes, and as [`write`](Db::write) is.
+    /// Puts a value under a key, and returns the sequence number of the batch. Fails with `BadKey` for a key outside 1 to 255 bytes,
+    /// with `BadValue` for a value above 2,048 bytes, and as [`write`](Db::write).
     pub fn put(&mut self, key: &[u8], value: &[u8]) -> Result<u64, Refusal>
         ensures writes { WritesOne (or_then (key_refusal key.now) (value_refusal value.now)) (record { key = key.now; value = Some value.now }) self.old (reply_of Number result) self.new }
     {
         put(self.alloc, &mut self.store, &mut self.upkeep, key, value)
     }
 
-    /// Deletes a key, and answers the number of the batch. It is refused with `BadKey` for a key outside 1 to 255 bytes, and as
-    /// [`write`](Db::write) is.
+    /// Deletes a key, and returns the sequence number of the batch. Fails with `BadKey` for a key outside 1 to 255 bytes, and
+    /// as [`write`](Db::write).
     pub fn delete(&mut self, key: &[u8]) -> Result<u64, Refusal>
         ensures writes { WritesOne (key_refusal key.now) (record { key = key.now; value = None }) self.old (reply_of Number result) self.new }
     {
         delete(self.alloc, &mut self.store, &mut self.upkeep, key)
     }
 
-    /// The value of a key, or none where it has none.
+    /// The value of a key, `None` where it has none.
     ///
-    /// It is refused with `Stopped`, with `BadKey` where the key has no byte or more than 255, with `Io`, with `BadTable` where what the
-    /// device holds is no table, and, where the key has a value, with `NoMemory`. That changes nothing.
+    /// Fails with `Stopped`, with `BadKey` where the key has no byte or more than 255, with `Io`, with `BadTable` where a table on the
+    /// device is invalid, and, where the key has a value, with `NoMemory`. That changes nothing.
     pub fn get(&mut self, key: &[u8]) -> Result<Option<Vec<u8>>, Refusal>
         ensures serves { Serves self.old (Get Now key.now) (reply_of (λ value. Value (option_map (λ v. v.items) value)) result) self.new }
     {
         self.store.get(At::Now, key)
     }
 
-    /// The value that a key had when a snapshot was taken. It is refused as [`get`](Db::get) is, and with `NoSuchSnapshot` behind
-    /// `BadKey`.
+    /// The value that a key had when a snapshot was taken. Fails as [`get`](Db::get), and with `NoSuchSnapshot`, after `BadKey`.
     pub fn get_at(&mut self, snapshot: u64, key: &[u8]) -> Result<Option<Vec<u8>>, Refusal>
         ensures serves { Serves self.old (Get (Snap snapshot) key.now) (reply_of (λ value. Value (option_map (λ v. v.items) value)) result) self.new }
     {
@@ -180,8 +179,8 @@ impl<D: Device> Db<D> {
 
     /// The first `limit` rows in the order of keys, from the key `from` on, up to the key `to` where one is given, which is outside.
     ///
-    /// It is refused with `Stopped`, with `BadLimit` for a `limit` outside 1 to 64, with `BadRange` where `from` is above `to`, with
-    /// `NoSuchSnapshot`, with `Io`, with `BadTable` where what the device holds is no table, and with `NoMemory`. That changes nothing.
+    /// Fails with `Stopped`, with `BadLimit` for a `limit` outside 1 to 64, with `BadRange` where `from` is above `to`, with
+    /// `NoSuchSnapshot`, with `Io`, with `BadTable` where a table on the device is invalid, and with `NoMemory`. That changes nothing.
     pub fn page(
         &mut self,
         at: At,
@@ -194,9 +193,9 @@ impl<D: Device> Db<D> {
         self.store.scan(at, from, to, limit)
     }
 
-    /// Takes a snapshot of the present map, and answers its number. It lives until it is released, or the store is closed.
+    /// Takes a snapshot of the present map, and returns its number. It lives until it is released, or the store is closed.
     ///
-    /// It is refused with `Stopped`, with `TooManySnapshots` where 32 are live, with `Exhausted` where 2^63 were taken, and with
+    /// Fails with `Stopped`, with `TooManySnapshots` where 32 are live, with `Exhausted` where 2^63 were taken, and with
     /// `NoMemory`.
     pub fn snapshot(&mut self) -> Result<u64, Refusal>
         ensures serves { Serves self.old Snapshot (reply_of Number result) self.new }
@@ -204,44 +203,44 @@ impl<D: Device> Db<D> {
         self.store.snapshot()
     }
 
-    /// Forgets the snapshot of a number, which is not given again. It is refused with `Stopped` and with `NoSuchSnapshot`.
+    /// Forgets the snapshot of a number, which is not given again. Fails with `Stopped` and with `NoSuchSnapshot`.
     pub fn release(&mut self, snapshot: u64) -> Result<(), Refusal>
         ensures serves { Serves self.old (Release snapshot) (reply_of (λ _. Done) result) self.new }
     {
         self.store.release(snapshot)
     }
 
-    /// Makes all batches outlast a crash, with one sync of the device. It is refused with `Stopped`, and with `Io`, which stops the store.
+    /// Makes all batches durable, with one sync of the device. Fails with `Stopped`, and with `Io`, which stops the store.
     pub fn sync(&mut self) -> Result<(), Refusal>
         ensures serves { Serves self.old Sync (reply_of (λ _. Done) result) self.new }
     {
         self.store.sync()
     }
 
-    /// Makes the batches up to this number outlast a crash: with one sync of the device, or none where they do already. It is refused
-    /// with `Stopped`, with `NoSuchBatch` where the number is above the last batch's, and with `Io`, which stops the store.
+    /// Makes the batches up to this sequence number durable: with one sync of the device, or none where they already are. Fails with
+    /// `Stopped`, with `NoSuchBatch` where the number is above the last batch's, and with `Io`, which stops the store.
     pub fn sync_to(&mut self, number: u64) -> Result<(), Refusal>
         ensures serves { Serves self.old (SyncTo number) (reply_of (λ _. Done) result) self.new }
     {
         self.store.sync_to(number)
     }
 
-    /// The numbers of the store. It is refused with `Stopped`.
+    /// The numbers of the store. Fails with `Stopped`.
     pub fn stat(&self) -> Result<Stat, Refusal>
         ensures { result ≡ stat_answer (machine_of self.now) }
     {
         self.store.stat()
     }
 
-    /// How many batches there are, which is the number of the last one: also of a stopped store.
+    /// How many batches there are, which is the last one's sequence number: also of a stopped store.
     pub fn batch_count(&self) -> u64
         ensures { result ≡ batch_count self.now.state.points }
     {
         self.store.batch_count()
     }
 
-    /// Brings all tables into the last level, where deletes have nothing more to delete and small tables are joined. It tells whether all
-    /// are there then. What is in memory stays there. What is refused is passed over: the store goes on as it then is.
+    /// Merges all tables into the last level, where deletes have nothing more to delete and small tables are joined. Returns whether all
+    /// are there then. What is in memory stays there. A merge that fails is skipped: the store goes on as it then is.
     pub fn compact(&mut self) -> bool
         ensures compacts { CompactsWhole self.old self.new }
         ensures upkept { IsUpkept self.old self.new }

@@ -14,7 +14,7 @@ impl Db<FileDevice> {
     /// and what it held is gone, but only once the new one is whole: until then the old one is as it was. Nobody else gets the file
     /// meanwhile.
     ///
-    /// It is refused with the cause: what keeps the file from being made; `BadGeometry` for sectors or log sectors outside the limits;
+    /// Fails with the cause: what keeps the file from being made; `BadGeometry` for sectors or log sectors outside the limits;
     /// `BadLimit` for a cache outside 1 to 4,096 blocks; `NoMemory`; and `Io`.
     pub fn create<R: Files<File = File> + AllocGlobal>(
         rt: &R,
@@ -32,7 +32,7 @@ impl Db<FileDevice> {
     /// Opens the store in a file, as [`on`](Db::on) does. Nobody else gets the file until the store is let go. The options for a new store
     /// are not asked.
     ///
-    /// It is refused with the cause: what keeps the file from being opened, or the refusal of [`on`](Db::on).
+    /// Fails with the cause: what keeps the file from being opened, or the refusal of [`on`](Db::on).
     pub fn open<R: Files<File = File> + AllocGlobal>(
         rt: &R,
         path: &str,

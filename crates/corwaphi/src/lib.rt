@@ -1,8 +1,8 @@
-//! A store with no duties: it makes room by itself.
+//! A store that makes room by itself.
 //!
-//! A [`Db`] is a store and its upkeep. It is an ordered map from keys to values, whose batches are committed whole or not at all, outlast a
-//! crash from the next sync on, and are read at present or at a snapshot. Where a write finds no room it flushes, rotates and brings
-//! tables down first. That a log is full is never told.
+//! A [`Db`] is a store and its upkeep. It is an ordered map from keys to values, whose batches are committed whole or not at all, are
+//! durable after the next sync, and are read at present or at a snapshot. Where a write finds no room it flushes, rotates and merges tables
+//! down first. It never fails with `LogFull`.
 //!
 //! ```
 //! let mut db = Db::open_or_create(rt, "store.img", Options::default())?;
@@ -11,8 +11,8 @@
 //! db.sync()?;
 //! ```
 //!
-//! Each call's contract says that its reply is the store's (`Serves`), behind upkeep that changes no map, no snapshot and no count of batches
-//! (`IsUpkept`).
+//! Each call's contract says that its reply is the store's (`Serves`), after upkeep that changes no map, no snapshot and no count of
+//! batches (`IsUpkept`).
 #![tactic(auto)]
 
 mod buffer;

@@ -35,8 +35,8 @@ impl Default for Options {
 }
 
 impl Options {
-    /// Options for a new store of so many rows, with keys and values of so many bytes, which will fill about 45 percent of it; or those of the
-    /// largest store, where that is smaller.
+    /// Options for a new store of which `rows` rows, with keys of `key_bytes` and values of `value_bytes` bytes, will fill about 45
+    /// percent; or those of the largest store, where that is smaller.
     ///
     /// A log region has a sixteenth of the sectors, 2,042 at most; and the cache a block for each 256 sectors, 256 at least.
     pub fn for_rows(rows: u64, key_bytes: u32, value_bytes: u32) -> Options
@@ -54,8 +54,8 @@ impl Options {
     }
 }
 
-// The blocks of a data area of which so many rows fill 45 percent: those of their entries, and four more for each table. Where no store
-// has so many entries, they are those of the largest store.
+// The blocks of a data area of which `rows` rows fill 45 percent: those of their entries, and four more for each table. Where no store
+// has that many entries, they are those of the largest store.
 fn blocks_for(rows: u64, key_bytes: u32, value_bytes: u32) -> u32
     ensures few { result < 2 ^ 28 }
     ensures room { AreRoomFor rows (entry_bytes key_bytes value_bytes) result }
@@ -69,7 +69,7 @@ fn blocks_for(rows: u64, key_bytes: u32, value_bytes: u32) -> u32
     (blocks + 4 * tables) * 20 / 9
 }
 
-// The blocks that so many entries of so many bytes fill, of which one has room for 4,094 bytes of them.
+// The blocks that `rows` entries of `entry` bytes fill, of which one has room for 4,094 bytes of them.
 fn entry_blocks(rows: u32, entry: u32) -> u32
     requires few { rows ≤ 3276800 }
     requires some { 12 ≤ entry }

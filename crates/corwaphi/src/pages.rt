@@ -34,7 +34,7 @@ impl Model for Pages {
 impl<D: Device> Db<D> {
     /// The rows of the present map from the key `from` on, up to the key `to` where one is given, which is outside.
     ///
-    /// It is refused with `NoMemory`, and as [`snapshot`](Db::snapshot) is. Where `from` is above `to` the first page is refused.
+    /// Fails with `NoMemory`, and as [`snapshot`](Db::snapshot). Where `from` is above `to` the first page fails.
     pub fn pages(&mut self, from: &[u8], to: Option<&[u8]>) -> Result<Pages, Refusal>
         ensures { MatchResult result
             (λ pages. Begins from.now (option_map (λ to. to.now) to.entry) pages self.old self.new)
@@ -54,7 +54,7 @@ impl<D: Device> Db<D> {
 }
 
 impl Pages {
-    /// The next 64 rows, or as many as are left; none behind the last page. A refusal leaves it as it was, so that it may be asked again:
+    /// The next 64 rows, or as many as are left; `None` after the last page. An error leaves it as it was, so that it may be asked again:
     /// those of [`page`](Db::page) come first, then `NoMemory`.
     pub fn next_page<D: Device>(&mut self, db: &mut Db<D>) -> Result<Option<Page>, Refusal>
         ensures { MatchResult result (λ page. TellsNext self.old page self.new db.old db.new) (λ e. StaysThere self.old e self.new db.old db.new) }
@@ -78,7 +78,7 @@ impl Pages {
     }
 }
 
-// Releases a snapshot behind the last page.
+// Releases a snapshot after the last page.
 fn release_at_end<D: Device>(db: &mut Db<D>, snapshot: u64, page: &Page)
     ensures { ReleasesAtEnd page.now.next snapshot db.old db.new }
 {

@@ -5,7 +5,7 @@ ghost use Rattle.corwaphi.specs.Prefix.{behind_prefix};
 
 use std::alloc::{AllocError, Global};
 
-/// The least key behind all keys that begin with a prefix; none where no key is behind them, since the prefix has no byte but 255.
+/// The least key after all keys that begin with a prefix; `None` where no key is after them, since the prefix has no byte but 255.
 pub(crate) fn behind_prefix(alloc: Global, prefix: &[u8]) -> Result<Option<Vec<u8>>, AllocError>
     ensures { IfOk result (λ end. option_map (λ v. v.items) end ≡ behind_prefix prefix.now) }
 {

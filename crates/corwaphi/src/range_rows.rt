@@ -14,8 +14,8 @@ use crate::{Db, Row};
 use lsm_device::{Device, Refusal};
 use lsm_store::{At, Page, RowRef};
 
-/// Rows from a key on, up to another one, one after another. Nobody can write meanwhile, since they hold the store. A refusal
-/// leaves them where they were, so that they may be asked again: a loop that passes over refusals doesn't end while one stays.
+/// Rows from a key on, up to another one, one after another. Nobody can write meanwhile, since they hold the store. An error
+/// leaves them where they were, so that they may be asked again: a loop that skips errors doesn't end while one stays.
 #[derive(Drop)]
 pub struct RangeRows<'a, D: Device> {
     db: &'a mut Db<D>,
@@ -32,7 +32,7 @@ pub struct RangeRows<'a, D: Device> {
 impl<D: Device> Db<D> {
     /// The rows of the present map from the key `from` on, up to the key `to` where one is given, which is outside.
     ///
-    /// It is refused with `NoMemory`; what else the reading of rows may be refused with comes with the rows.
+    /// Fails with `NoMemory`; other errors of reading rows come with the rows.
     pub fn rows(&mut self, from: &[u8], to: Option<&[u8]>) -> Result<RangeRows<'_, D>, Refusal>
         ensures begins { IfOk result (λ rows. standing rows ≡ stands_before Now from.now (option_map (λ to. to.now) to.entry) self.old) }
         ensures calls { IfOk result (λ rows. calls_left rows ≡ 2 ^ 64 - 1) }
@@ -42,8 +42,7 @@ impl<D: Device> Db<D> {
         self.rows_at(At::Now, from, to)
     }
 
-    /// The rows of the present map whose keys begin with a prefix: those of the range from it to what is behind it. It is refused as
-    /// [`rows`](Db::rows) is.
+    /// The rows of the present map whose keys begin with a prefix. Fails as [`rows`](Db::rows).
     pub fn rows_with_prefix(&mut self, prefix: &[u8]) -> Result<RangeRows<'_, D>, Refusal>
         ensures begins { IfOk result (λ rows. standing rows ≡ stands_before Now prefix.now (behind_prefix prefix.now) self.old) }
         ensures calls { IfOk result (λ rows. calls_left rows ≡ 2 ^ 64 - 1) }
@@ -82,8 +81,8 @@ impl<D: Device> Db<D> {
 }
 
 impl<D: Device> RangeRows<'_, D> {
-    /// The next row, or none where none is left. A refusal leaves the rows where they were, so that they may be asked again: those of
-    /// [`page`](Db::page), of which `BadRange` tells that `from` is above `to`, and `NoMemory`.
+    /// The next row, or `None` where none is left. An error leaves the rows where they were, so that they may be asked again: those
+    /// of [`page`](Db::page), of which `BadRange` tells that `from` is above `to`, and `NoMemory`.
     pub fn next_row(&mut self) -> Result<Option<Row>, Refusal>
         ensures asks { AsksRow (standing self.old) result (standing self.new) }
         ensures same_store { lender self.new ≡ lender self.old }
@@ -126,8 +125,8 @@ impl<D: Device> RangeRows<'_, D> {
     }
 }
 
-/// It asks as [`next_row`](RangeRows::next_row) does, and tells a refusal as an item, behind which it goes on where it was. Each loop is to
-/// end, so the call of number 2^64 - 1 tells `Exhausted`, and then there is none; no store has so many rows.
+/// It asks as [`next_row`](RangeRows::next_row) does, and gives an error as an item, after which it goes on where it was. Each loop is to
+/// end, so call number 2^64 - 1 gives `Exhausted`, and then `None`; no store has that many rows.
 impl<D: Device> Iterator for RangeRows<'_, D> {
     type Item = Result<Row, Refusal>;
 
@@ -151,7 +150,7 @@ impl<D: Device> Iterator for RangeRows<'_, D> {
     }
 }
 
-// The key with which the next page begins, none behind the last one.
+// The key with which the next page begins, `None` after the last one.
 fn next_key<'p>(from: &'p Vec<u8>, page: &'p Option<Page>) -> Option<&'p [u8]>
     ensures { option_map (λ key. key.now) result ≡ key_behind from.now.items page.now }
 {
@@ -161,7 +160,7 @@ fn next_key<'p>(from: &'p Vec<u8>, page: &'p Option<Page>) -> Option<&'p [u8]>
     }
 }
 
-// The row behind so many of a page, where there is one.
+// The row after the first `told` of a page, where there is one.
 fn row_behind<'p>(page: &'p Option<Page>, told: usize) -> Option<RowRef<'p>>
     ensures first { IsFirst (option_map shown_row result) (rows_behind told page.now) (rows_behind (told + 1) page.now) }
     ensures fits { IfSome result (λ _. told + 1 < 2 ^ 64) }
@@ -172,7 +171,7 @@ fn row_behind<'p>(page: &'p Option<Page>, told: usize) -> Option<RowRef<'p>>
     }
 }
 
-// The row behind so many of a page's rows, where there is one.
+// The row after the first `told` of a page's rows, where there is one.
 fn row_at<'p>(page: &'p Page, told: usize) -> Option<RowRef<'p>>
     ensures first { IsFirst (option_map shown_row result) (drop told page.now.rows) (drop (told + 1) page.now.rows) }
     ensures fits { IfSome result (λ _. told + 1 < 2 ^ 64) }

@@ -56,8 +56,8 @@ no_journal past = record { past = past; used = 0; journal = [] }
 abbrev pub lent_to : List Disk → ℕ → StoreView → StoreView
 lent_to past name s = record s { device = mapped s.device.size past name }
 
--- What a device of so many sectors has had written and synced since are records: the journal is filled with their text, and the disks
--- are those that the device has had once a host makes them.
+-- What a device of n sectors has had written and synced since are records: the journal is filled with their text, and the disks are
+-- those that the device has had once a host makes them.
 pub record IsWritten (n : ℕ) (loan : Loan) (history : List Disk) : Type 0 where
   pub records : List Record
   pub filled : IsFilledWith n loan.used loan.journal records
@@ -134,7 +134,7 @@ IsNumber (Number n) answer number = (answer ≡ 0) × (number ≡ n)
 IsNumber (Refused e) answer number = answer ≡ number_of e
 IsNumber other answer number = ⊥
 
--- a value of so many bytes, which stands in the room where it fits there; 32 for none, 33 for a room that is too short
+-- a value of this length, which is in the room where it fits there; 32 for none, 33 for a room that is too short
 abbrev pub IsValue : Reply → ℕ → List ℕ → ℕ → Type 0
 IsValue (Value (Some bytes)) answer room size = (size ≡ length bytes) × (((answer ≡ 0) × (take (length bytes) room ≡ bytes)) ⊎ ((answer ≡ 33) × (length room < length bytes)))
 IsValue (Value None) answer room size = answer ≡ 32

@@ -69,14 +69,14 @@ OpensOn cache before after kept = (s : StoreView) × IsOpenedOn cache before s �
 
 -- ---- on the device of a call
 
--- a device of so many sectors was formatted so
+-- a device of `sectors` sectors was formatted so
 pub record FormatsHere (sectors log_sectors answer : ℕ) (loan : Loan) : Type 0 where
   pub name : ℕ
   pub after : Medium
   pub formats : Formats log_sectors answer (mapped sectors loan.past name) after
   pub written : IsWritten sectors loan after.history
 
--- a store was opened on a device of so many sectors, and is kept
+-- a store was opened on a device of `sectors` sectors, and is kept
 pub record IsKeptOpened (sectors cache : ℕ) (loan : Loan) (kept : Option StoreView) : Type 0 where
   pub name : ℕ
   pub opened : StoreView

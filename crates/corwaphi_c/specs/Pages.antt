@@ -15,7 +15,7 @@ abbrev pub next_text : Option Bytes → List ℕ
 next_text (Some key) = row_text (key, [])
 next_text None = []
 
--- the rows, and behind them the next key
+-- the rows, and after them the next key
 abbrev pub page_text : Page → List ℕ
 page_text page = flat_map row_text page.rows ++ next_text page.next
 
@@ -31,15 +31,16 @@ is_wide_next None = false
 abbrev pub has_wide : Page → Bool
 has_wide page = list_any is_wide page.rows || is_wide_next page.next
 
--- The text of a page stands at the front of the room, the whole of it, and so much is told of it; or it has none (33): it is too short for it,
--- or a row too wide.
+-- The text of a page stands at the front of the room, the whole of it, and this is told of it; or the call returns 33: the room is too
+-- short for it, or a row too wide.
 abbrev pub IsPage : Page → ℕ → List ℕ → PageTold → Type 0
 IsPage page answer room told =
     ((answer ≡ 0) × (take (length (page_text page)) room ≡ page_text page)
     × (told ≡ record { length = length (page_text page); rows = length page.rows; has_next = is_some page.next }))
     ⊎ ((answer ≡ 33) × ((length room < length (page_text page)) ⊎ (has_wide page ≡ true)))
 
--- Bytes were put at a place of a room, and that behind them is told; or not all of them, since the room ends before, or this is true of them.
+-- Bytes were put at a place of a room, and the place after them is told; or not all of them, since the room ends before, or this is true of
+-- them.
 abbrev pub ArePut : ℕ → List ℕ → Bool → List ℕ → Option ℕ → List ℕ → Type 0
 ArePut at bytes wide old told new = (length new ≡ length old)
     × (((told ≡ Some (at + length bytes)) × ((at ≤ length old → at + length bytes ≤ length old) × (take (at + length bytes) new ≡ take at old ++ bytes)))

@@ -74,7 +74,7 @@ pub(crate) fn copy(bytes: &[u8], room: &mut [u8], size: &mut usize) -> u32
     OK
 }
 
-/// What is told of a page beside its bytes.
+/// What is told of a page besides its bytes.
 #[repr(C)]
 #[derive(Drop)]
 pub struct PageTold {
@@ -82,12 +82,12 @@ pub struct PageTold {
     pub length: usize,
     /// How many rows there are.
     pub rows: usize,
-    /// Whether a next key stands behind them.
+    /// Whether a next key comes after them.
     pub has_next: bool,
 }
 
 /// Puts the rows of a page, each as the length of its key and that of its value, each a u16 in little endian, the key and the value; and
-/// behind them the next key, as a row with an empty value, where there is one.
+/// after them the next key, as a row with an empty value, where there is one.
 pub(crate) fn put_page(page: &Page, room: &mut [u8], told: &mut PageTold) -> u32
     ensures { IsPage page.now result room.new told.new }
 {
@@ -106,7 +106,7 @@ pub(crate) fn put_page(page: &Page, room: &mut [u8], told: &mut PageTold) -> u32
     OK
 }
 
-// Puts rows from the front on, and tells the place behind them; none where the room ends before.
+// Puts rows from the front on. Returns the place after them; `None` where the room ends before.
 fn put_rows(rows: Rows<'_>, room: &mut [u8]) -> Option<usize>
     ensures { ArePut 0 (flat_map row_text rows.entry) (list_any is_wide rows.entry) room.old result room.new }
 {
@@ -140,7 +140,7 @@ fn put_row(key: &[u8], value: &[u8], room: &mut [u8], at: usize) -> Option<usize
     put(value, room, at)
 }
 
-// Puts bytes at a place, and tells that behind them; none where the room ends before.
+// Puts bytes at a place. Returns the place after them; `None` where the room ends before.
 fn put(bytes: &[u8], room: &mut [u8], at: usize) -> Option<usize>
     ensures { ArePut at bytes.now false room.old result room.new }
 {

@@ -12,7 +12,7 @@ use lsm_store::Store;
 /// The room that a journal needs for any call but a format: 128 sectors, and 16 heads.
 pub(crate) const JOURNAL_BYTES: usize = 65_664;
 
-/// A store between two calls. There is none while a call has it.
+/// A store between two calls. `store` is `None` while a call has it.
 #[derive(Drop)]
 pub struct Kept {
     pub(crate) store: Option<Store<ParkedDevice>>,

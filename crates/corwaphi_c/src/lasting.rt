@@ -12,7 +12,7 @@ use lsm_device::{Device, Refusal};
 use lsm_mapped::MappedDevice;
 use lsm_store::Store;
 
-/// Makes all batches durable, once the journal is made. It is refused with Stopped.
+/// Makes all batches durable, once the journal is made. Fails with Stopped.
 #[unsafe(no_mangle)]
 pub extern "C" fn corwaphi_store_sync(
     handle: Handle,
@@ -31,8 +31,8 @@ pub extern "C" fn corwaphi_store_sync(
     answer
 }
 
-/// Makes the batches up to a number durable, once the journal is made, which is empty where they are durable already. It is refused with
-/// Stopped and NoSuchBatch.
+/// Makes the batches up to a sequence number durable, once the journal is made, which is empty where they are durable already. Fails
+/// with Stopped and NoSuchBatch.
 #[unsafe(no_mangle)]
 pub extern "C" fn corwaphi_store_sync_to(
     handle: Handle,
@@ -52,7 +52,7 @@ pub extern "C" fn corwaphi_store_sync_to(
     answer
 }
 
-// Makes the batches up to a number durable, or all.
+// Makes the batches up to a sequence number durable, or all.
 fn make(
     kept: &mut Kept,
     image: &[u8],

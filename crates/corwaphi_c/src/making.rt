@@ -18,9 +18,9 @@ use lsm_store::Store;
 use lsm_upkeep::Goal;
 use std::alloc::Global;
 
-/// Makes an empty store of so many sectors, which are zeros, with log regions of so many: all that it writes is in the journal, which
-/// needs room for 132 sectors and three log regions, and a head of 8 bytes for each of those. It is refused with BadGeometry, NoMemory
-/// and Io, which is also for a journal without room.
+/// Makes an empty store of `sectors` sectors, which are zeros, with log regions of `log_sectors` sectors: all that it writes is in the
+/// journal, which needs room for 132 sectors and three log regions, and a head of 8 bytes for each of those. Fails with BadGeometry,
+/// NoMemory and Io, which is also for a journal without room.
 #[unsafe(no_mangle)]
 pub extern "C" fn corwaphi_store_format(
     alloc: Global,
@@ -59,9 +59,9 @@ fn format_on<D: Device>(alloc: Global, device: D, log_sectors: u16) -> (u32, D)
     }
 }
 
-/// Opens the store in an image, with a cache of so many blocks, and puts its handle into the slot. The journal is to be made also where
-/// the opening is refused. Then `corwaphi_store_work` finishes what waits, and opens a log where the open one has no room. It is refused
-/// as `Store::open` is, and with BadLimit for a journal of less than 65,664 bytes; then the slot is left as it is.
+/// Opens the store in an image, with a cache of `cache` blocks, and puts its handle into the slot. The journal is to be made also where
+/// the opening fails. Then `corwaphi_store_work` finishes what waits, and opens a log where the open one has no room. Fails as
+/// `Store::open`, and with BadLimit for a journal of less than 65,664 bytes; then the slot is left as it is.
 #[unsafe(no_mangle)]
 pub extern "C" fn corwaphi_store_open(
     alloc: Global,
@@ -91,7 +91,7 @@ pub extern "C" fn corwaphi_store_open(
     }
 }
 
-// The store in an image, to be kept, or why there is none.
+// The store in an image, to be kept, or why it can't be opened.
 fn open_kept(
     alloc: Global,
     image: &[u8],
@@ -122,7 +122,7 @@ fn open_kept(
     }
 }
 
-// Opens the store on the device of a call and keeps it, or tells why there is none.
+// Opens the store on the device of a call and keeps it, or tells why it can't.
 fn open_mapped(
     alloc: Global,
     kept: &mut Kept,
@@ -144,7 +144,7 @@ fn open_mapped(
     }
 }
 
-// The store on a device, or why there is none.
+// The store on a device, or why it can't be opened.
 fn open_on<D: Device>(alloc: Global, device: D, cache: u32) -> Result<Store<D>, (u32, D)>
     ensures { MatchResult result (λ s. IsOpenedOn cache (D.medium device) s) (λ e. IsRefusedOn cache e.0 (D.medium device) (D.medium e.1)) }
 {

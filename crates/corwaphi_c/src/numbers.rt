@@ -31,7 +31,7 @@ pub struct Numbers {
     pub waiting: bool,
 }
 
-/// Tells the numbers of a store. It is refused with Stopped.
+/// Tells the numbers of a store. Fails with Stopped.
 #[unsafe(no_mangle)]
 pub extern "C" fn corwaphi_store_stat(handle: Handle, slot: &mut Slot, out: &mut Numbers) -> u32
     ensures told { (s : StoreView) → handle.value.store ≡ Some s → IsStat s result out.new }

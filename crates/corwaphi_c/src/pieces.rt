@@ -21,7 +21,7 @@ pub(crate) enum Did {
     Nothing,
     /// A piece was done, and there may be more of it.
     Piece,
-    /// A job was finished.
+    /// A job, a flush or a compaction, was finished.
     Job,
     /// A piece was done or a job finished, and what is left are merges that a write needn't wait for.
     Rest,
@@ -94,7 +94,7 @@ impl Upkeep {
         }
     }
 
-    /// Does the next piece. What is refused is passed over: the job that it stops is given up.
+    /// Does the next piece. An error is skipped: the job that it stops is given up.
     pub(crate) fn go_on<D: Device>(
         &mut self,
         alloc: Global,

@@ -13,7 +13,7 @@ use lsm_mapped::MappedDevice;
 use lsm_store::{At, Store};
 
 /// Copies the value of a key into the room, and tells its length, also where the room is too short for it (ShortBuffer). Where the key
-/// has no value that is NoValue. The snapshot is a number, or the last of 64 bits for the present map. It is refused as `Store::get`.
+/// has no value that is NoValue. The snapshot is a number, or the last of 64 bits for the present map. Fails as `Store::get`.
 #[unsafe(no_mangle)]
 pub extern "C" fn corwaphi_store_get(
     handle: Handle,
@@ -66,7 +66,7 @@ fn get_in<D: Device>(
 }
 
 /// Copies the first rows from a key on, up to another one where that is given, into the room, and tells of them. With ShortBuffer the
-/// page doesn't fit the room: ask for fewer rows. It is refused as `Store::scan`.
+/// page doesn't fit the room: ask for fewer rows. Fails as `Store::scan`.
 #[unsafe(no_mangle)]
 pub extern "C" fn corwaphi_store_rows(
     handle: Handle,
@@ -139,7 +139,7 @@ fn rows_in<D: Device>(
     }
 }
 
-/// Takes a snapshot of the present map, and tells its number. It is refused as `Store::snapshot`.
+/// Takes a snapshot of the present map, and tells its number. Fails as `Store::snapshot`.
 #[unsafe(no_mangle)]
 pub extern "C" fn corwaphi_store_snapshot(handle: Handle, slot: &mut Slot, out: &mut u64) -> u32
     ensures { MakesParked (Answers Snapshot (λ reply. IsNumber reply result out.new)) handle.value.store (store_in slot.new.value) }
@@ -159,7 +159,7 @@ fn take_snapshot(kept: &mut Kept, out: &mut u64) -> u32
     }
 }
 
-/// Forgets a snapshot. It is refused as `Store::release`.
+/// Forgets a snapshot. Fails as `Store::release`.
 #[unsafe(no_mangle)]
 pub extern "C" fn corwaphi_store_release(handle: Handle, slot: &mut Slot, snapshot: u64) -> u32
     ensures { MakesParked (Answers (Release snapshot) (λ reply. IsDone reply result)) handle.value.store (store_in slot.new.value) }

@@ -15,11 +15,11 @@ use lsm_upkeep::Goal;
 use std::alloc::Global;
 
 /// Does a piece of what the store is to reach: what a write waits for, what an opening left, or what `corwaphi_store_compact` asked for. It
-/// tells 0 where there is nothing to do, 1 where there may be more, 2 where a job was finished, and 3 where a piece was done, and what is
-/// left are merges that no write waits for: they may be done a few pieces before each of the next writes. A piece takes a job, or finds that
-/// there is none; reads at most 8 blocks; builds the tables of a result; writes at most 8 blocks; installs the tables; or opens another
-/// log. What is refused is passed over: the job that it stops is given up, and the store's map is the same either way. The call is
-/// refused with Stopped.
+/// returns 0 where there is nothing to do, 1 where there may be more, 2 where a flush or compaction was finished, and 3 where a piece was
+/// done, and what is left are merges that no write waits for: they may be done a few pieces before each of the next writes. A piece takes a
+/// flush or compaction, or finds none to take; reads at most 8 blocks; builds the tables of a result; writes at most 8 blocks; installs the
+/// tables; or opens another log. An error is skipped: the flush or compaction that it stops is given up, and the store's map is the same
+/// either way. The call fails with Stopped.
 #[unsafe(no_mangle)]
 pub extern "C" fn corwaphi_store_work(
     alloc: Global,
@@ -75,7 +75,7 @@ fn work(
 }
 
 /// Asks that what is in memory comes into tables, and all tables into the last level, as far as they find room: `corwaphi_store_work` does
-/// it. It is refused with Stopped.
+/// it. Fails with Stopped.
 #[unsafe(no_mangle)]
 pub extern "C" fn corwaphi_store_compact(handle: Handle, slot: &mut Slot) -> u32
     ensures asked { (s : StoreView) → handle.value.store ≡ Some s → IsAsked (machine_of s) result }

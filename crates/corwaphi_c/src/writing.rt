@@ -1,10 +1,10 @@
-//! Batches are written. Each call answers the number of its batch. Where the store is to be made ready for it first, it answers that work
-//! comes first: the host calls `corwaphi_store_work` until there is nothing to do, or nothing that a write waits for, and makes the same
-//! call again. After a few times the batch is written, or refused.
+//! Batches are written. Each call returns the sequence number of its batch. Where the store is to be made ready for it first, it returns
+//! that work comes first: the host calls `corwaphi_store_work` until there is nothing to do, or nothing that a write waits for, and makes
+//! the same call again. After a few times the batch is written, or refused.
 //!
-//! A batch is taken only where what it makes of its keys will find room in tables. So one that puts values is refused with NoSpace where
-//! they find none though all tables were brought down as far as they go; and one of deletes is so only while a snapshot is live. That
-//! the log is full is never told: where no log could be opened that has room, that is NoSpace too.
+//! A batch is taken only where its entries will find room in tables. So one that puts values fails with NoSpace where they find none
+//! though all tables were merged down as far as they go; and one of deletes only while a snapshot is live. LogFull is never returned:
+//! where no log with room could be opened, that is NoSpace too.
 
 ghost use Rattle.std.specs.Prelude.{◌≡◌, ◌≤◌, ◌++◌, ◌∷◌, [], Some, None, List, option_map, length, map, MatchResult};
 ghost use Rattle.lsm_device.specs.Disk.{Disk};
@@ -24,7 +24,7 @@ use lsm_store::Store;
 use lsm_upkeep::{Verdict, without_log_full};
 use std::alloc::Global;
 
-/// Puts a value under a key. It is refused with BadKey, BadValue, NoSpace, and as a commit of the store.
+/// Puts a value under a key. Fails with BadKey, BadValue, NoSpace, and as a commit of the store.
 #[unsafe(no_mangle)]
 pub extern "C" fn corwaphi_store_put(
     alloc: Global,
@@ -68,7 +68,7 @@ fn put(
     }
 }
 
-/// Deletes a key. It is refused with BadKey, and as a commit of the store.
+/// Deletes a key. Fails with BadKey, and as a commit of the store.
 #[unsafe(no_mangle)]
 pub extern "C" fn corwaphi_store_delete(
     alloc: Global,
@@ -131,8 +131,8 @@ fn commit_one(
     }
 }
 
-/// Writes a batch, whole or not at all, which is given by its text. It is refused with BadText, NoSpace where puts lack room, and as a
-/// commit of the store.
+/// Writes a batch, whole or not at all, which is given by its text. Fails with BadText, NoSpace where puts lack room, and as a commit
+/// of the store.
 #[unsafe(no_mangle)]
 pub extern "C" fn corwaphi_store_write(
     alloc: Global,
@@ -229,8 +229,8 @@ fn commit_in<D: Device>(
 }
 
 /// Writes a batch where the present map meets guards, which are given as the text of a batch too, or as no bytes where there are none:
-/// a put says that its key has its value, a delete that its key has none. It is refused as `corwaphi_store_write` is, with
-/// TooManyGuards, and with GuardFailed and the place of the first guard that is false, counted from 0.
+/// a put says that its key has its value, a delete that its key has none. Fails as `corwaphi_store_write`, with TooManyGuards, and
+/// with GuardFailed and the place of the first guard that is false, counted from 0.
 #[unsafe(no_mangle)]
 pub extern "C" fn corwaphi_store_write_if(
     alloc: Global,
@@ -333,7 +333,7 @@ fn commit_under<D: Device>(
     }
 }
 
-// Tells the place of the guard by which a commit was refused, if it was.
+// Tells the place of the guard that failed a commit, if one did.
 fn tell_place(reply: &Result<u64, Refusal>, out: &mut u8)
     ensures { IsPlace (reply_of Number reply.now) out.new }
 {

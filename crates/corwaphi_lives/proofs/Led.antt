@@ -1,4 +1,4 @@
--- A life of a `Db` is one of the store behind it.
+-- A life of a `Db` is one of its store.
 use Rattle.std.proofs.Common.{◌≡◌, ℕ, List, [], ◌∷◌, map, Option, None, Some, refl, ap, subst, ◌∙◌}
 use Rattle.lsm_device.specs.Medium.{Medium, Lasting, KeepsFuse}
 use Rattle.lsm_store.specs.Backing.{StoreView}

@@ -32,7 +32,7 @@ use Rattle.corwaphi_lives.specs.declared.calls.DbLife.{DbLife}
 use Rattle.corwaphi_lives.proofs.Led.{leads_store}
 use Rattle.corwaphi_lives.proofs.Stepping.{IsPlain, ArePlain}
 
--- ---- lives of the store behind it
+-- ---- lives of its store
 
 record AreStoreLives (lives : List LifeView) (before : Medium) (told : List (List Reply)) (after : Medium) : Type 0 where
   views : List StoreLife

@@ -66,7 +66,7 @@ pub replies_more : (places : Places) (i : ℕ) (new : Vec (GivenReply Global) Gl
 replies_more places i new within =
     ap (λ (l : Places). replies_by l) (take_more_set places i new within) ∙ map_push (λ (v : Vec (GivenReply Global) Global). map reply_of v.items) (take i places) new
 
--- one led behind others
+-- one led after others
 module _ (life : LifeView) (told : List Reply) (mid after : Medium) (leads : LeadsTo life mid told after) where
   pub led_more : (lives : List LifeView) (before : Medium) (answers : List (List Reply)) → AreLed lives before answers mid
       → AreLed (lives ++ life ∷ []) before (answers ++ told ∷ []) after

@@ -1,4 +1,4 @@
--- What replies tell: the snapshots that are live behind them, and that a log is full, which none but a commit is refused with.
+-- What replies tell: the snapshots that are live after them, and that a log is full, which only a commit fails with.
 use Rattle.std.proofs.Common.{◌≡◌, ℕ, Bool, true, false, not, ◌==◌, List, [], ◌∷◌, ◌++◌, map, cond, Option, Some, None, is_some, nat_le, true≢false, refl, ap, ◌∙◌}
 use Rattle.std.specs.Prelude.{filter}
 use Rattle.std.specs.List.{AllByRecursion}

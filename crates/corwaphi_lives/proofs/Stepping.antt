@@ -51,7 +51,7 @@ put_aside (Worked (Write job)) reply is steps replies = refl
 put_aside (Worked (Install job)) reply is steps replies = refl
 put_aside (Worked (Drop job)) reply is steps replies = refl
 
--- a call of a `Db` is none of upkeep
+-- a call of a `Db` is not of upkeep
 abbrev IsNoRotation : Call → Type 0
 IsNoRotation Rotate = ⊥
 IsNoRotation other = Unit {0}
@@ -76,7 +76,7 @@ pub record AreSteps (live : List ℕ) (old : StoreView) (asked : List (Option Ca
   pub replays : Replays old steps replies new
   pub told_so : AreTold live (served_by steps replies) asked told
 
--- behind upkeep
+-- after upkeep
 pub behind_upkeep : (n : ℕ) (live : List ℕ) (old mid new : StoreView) (asked : List (Option Call)) (told : List Reply) → UpkeepSteps n old mid → AreSteps live mid asked told new → AreSteps live old asked told new
 behind_upkeep zero live old mid new asked told same more = subst (λ (s : StoreView). AreSteps live s asked told new) same more
 behind_upkeep (suc n) live old mid new asked told (next, step, reply, is, serves, first) more =
@@ -108,7 +108,7 @@ abbrev pub IsPlain : Reply → Type 0
 IsPlain reply = as_told reply ≡ reply
 
 module _ (asked : List (Option Call)) (rest : List Reply) (mid new : StoreView) where
-  -- how the calls behind this one go on, whatever snapshots are live
+  -- how the calls after this one go on, whatever snapshots are live
   abbrev GoOn : Type 0
   GoOn = (live : List ℕ) → HasLive live mid → AreSteps live mid asked rest new
 

@@ -1,5 +1,5 @@
--- Ring 1 of the theorem for a `Db`: lives of a store behind it keep the batches, and what was asked of it and told is what is left of them
--- when upkeep is put aside.
+-- Ring 1 of the theorem for a `Db`: lives of its store keep the batches, and what was asked of it and told is what is left of them when
+-- upkeep is put aside.
 use Rattle.std.specs.Prelude.{◌≡◌, ◌⊎◌, ◌||◌, ◌==◌, ℕ, not, true, nat_lt, List, [], ◌∷◌, ◌++◌, length, map, filter, Option, Some, None}
 use Rattle.lsm_device.specs.declared.refusal.Refusal.TheVariants.{NoSpace, Stopped}
 use Rattle.lsm_root.specs.CrashState.{formatted}
@@ -44,8 +44,8 @@ AreTold live served asked told = ⊥
 
 -- ---- lives
 
--- A life of a `Db`, behind which were these acts, with these replies. First is told what the opening replied: the count of batches that it
--- found, or its refusal, and then each call is told that the store is stopped.
+-- A life of a `Db`, which made these acts, with these replies. First is told what the opening replied: the count of batches that it found,
+-- or its refusal, and then each call is told that the store is stopped.
 abbrev pub IsLifeTold : List Act → List Reply → List (Option Call) → List Reply → Type 0
 IsLifeTold acts (Number found ∷ replies) asked (Number n ∷ told) = (n ≡ found) × AreTold [] (served_in acts replies) asked told
 IsLifeTold acts (Refused reason ∷ replies) asked (Refused e ∷ told) = (e ≡ reason) × (told ≡ map (λ _. Refused Stopped) asked)
@@ -57,8 +57,8 @@ AreLivesTold [] [] [] [] = Unit {0}
 AreLivesTold (acts ∷ each) (replies ∷ all) (asked ∷ lives) (told ∷ rest) = IsLifeTold acts replies asked told × AreLivesTold each all lives rest
 AreLivesTold acts replies lives told = ⊥
 
--- Lives of a `Db` from a format on. A store behind it made acts that keep the batches, as ring 1 says it, and what was asked of the `Db` and
--- told is what is left of these when upkeep is put aside.
+-- Lives of a `Db` from a format on. Its store made acts that keep the batches, as ring 1 says it, and what was asked of the `Db` and told
+-- is what is left of these when upkeep is put aside.
 pub record KeepsDbBatches (log_sectors : ℕ) (lives : List (List (Option Call))) (told : List (List Reply)) : Type 0 where
   pub acts : List (List Act)
   pub replies : List (List Reply)

@@ -5,7 +5,7 @@ use Rattle.corwaphi_lives.specs.declared.calls.DbCall.{DbCall}
 use Rattle.corwaphi_lives.specs.declared.calls.DbCall.TheVariants as given
 use Rattle.corwaphi_lives.specs.declared.calls.DbLife.{DbLife}
 
--- A call of the machine. A compact is none: it is upkeep alone.
+-- A call of the machine. A compact is not one: it is upkeep alone.
 abbrev pub call_of : DbCall → Option Call
 call_of (given.Write batch) = Some (Commit batch)
 call_of (given.WriteIf guards batch) = Some (CommitIf guards.items batch)

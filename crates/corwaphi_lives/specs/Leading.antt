@@ -28,7 +28,7 @@ pub record LifeView : Type 0 where
 abbrev pub life_of : DbLife → LifeView
 life_of life = record { fuse = life.fuse; calls = calls_of life; mask = life.mask.items }
 
--- What one call does, and what is told of it. A compact is upkeep, and a write is one behind upkeep; any other is the store's. A `Db` is not
+-- What one call does, and what is told of it. A compact is upkeep, and a write is one after upkeep; any other is the store's. A `Db` is not
 -- asked to rotate.
 abbrev pub Does : StoreView → Option Call → Reply → StoreView → Type 0
 Does old None told new = IsUpkept old new × (told ≡ Done)
@@ -43,7 +43,7 @@ DoesEach old [] [] new = new ≡ old
 DoesEach old (call ∷ calls) (told ∷ rest) new = (mid : StoreView) × Does old call told mid × DoesEach mid calls rest new
 DoesEach old calls told new = ⊥
 
--- Behind what was told there is more, that of these calls.
+-- After what was told comes more, that of these calls.
 pub record AddsReplies (old : StoreView) (calls : List (Option Call)) (before after : List Reply) (new : StoreView) : Type 0 where
   pub more : List Reply
   pub added : after ≡ before ++ more
@@ -75,8 +75,8 @@ AreLed [] before [] after = after ≡ before
 AreLed (life ∷ lives) before (told ∷ rest) after = (mid : Medium) × LeadsTo life before told mid × AreLed lives mid rest after
 AreLed lives before told after = ⊥
 
--- They were led on a device in memory of so many sectors, which then was left so. At first every crash of it left what a format leaves, and
--- no fuse and no failing call was set.
+-- They were led on a device in memory of `sectors` sectors, which then was left so. At first every crash of it left what a format leaves,
+-- and no fuse and no failing call was set.
 pub record AreLedOn (sectors log_sectors : ℕ) (lives : List LifeView) (told : List (List Reply)) (after : Medium) : Type 0 where
   pub device : Medium
   pub size : device.size ≡ sectors

@@ -9,9 +9,9 @@ pub enum DbCall {
     Write(Batch),
     /// Adds a batch where each of these guards is true of the present map.
     WriteIf(Vec<Guard>, Batch),
-    /// Makes all batches outlast a crash.
+    /// Makes all batches durable.
     Sync,
-    /// Makes the batches up to this number outlast a crash.
+    /// Makes the batches up to this sequence number durable.
     SyncTo(u64),
     /// Asks for the value of a key.
     Get(At, Vec<u8>),

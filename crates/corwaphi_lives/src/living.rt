@@ -16,7 +16,7 @@ use corwaphi::{Db, Device, MemDevice, OpenOnError, Options, Refusal};
 use lsm_lives::{CACHE_BLOCKS, Reply};
 use std::alloc::{AllocError, Global};
 
-/// Lives one after another on a device, each on what the crash before it left. It is refused with `NoMemory` alone, where there is no place
+/// Lives one after another on a device, each on what the crash before it left. Fails only with `NoMemory`, where there is no place
 /// for all replies, before anything is done.
 pub(crate) fn lives<R: AllocGlobal>(
     rt: &R,

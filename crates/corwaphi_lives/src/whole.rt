@@ -17,7 +17,7 @@ use lsm_lives::Reply;
 /// without a premise. A life sets the fuse, opens the `Db`, makes the calls and crashes. Its replies are first the number of batches that its
 /// opening found, or the refusal of that, and then those of the calls; where the opening was refused, each of these is `Stopped`.
 ///
-/// It is refused where the device or the format is, and with `NoMemory` before the first life where there is no place for all replies.
+/// Fails where the device or the format does, and with `NoMemory` before the first life where there is no place for all replies.
 pub fn lives_of_db<R: AllocGlobal>(
     rt: &R,
     sectors: u32,

@@ -4,7 +4,7 @@ use corwaphi::{Db, OpenDbError, Options};
 use example_work_queue::Queue;
 use std::fs::{File, Files};
 
-/// The example of `corwaphi`. It answers the value of a key.
+/// The example of `corwaphi`. Returns the value of a key.
 pub fn put_in_a_file<R: Files<File = File> + AllocGlobal>(
     rt: &R,
 ) -> Result<Option<Vec<u8>>, OpenDbError> {
@@ -15,7 +15,7 @@ pub fn put_in_a_file<R: Files<File = File> + AllocGlobal>(
     Ok(value)
 }
 
-/// The example of `example_work_queue`. It answers the number of the task.
+/// The example of `example_work_queue`. Returns the number of the task.
 pub fn work_off_a_task<R: Files<File = File> + AllocGlobal>(rt: &R) -> Result<u64, OpenDbError> {
     let db = Db::open_or_create(rt, "tasks.img", Options::default())?;
     let mut queue = Queue::on(rt.alloc(), db);

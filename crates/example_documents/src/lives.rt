@@ -8,7 +8,7 @@ use lsm_progress::Silent;
 use std::alloc::Global;
 use std::thread::Threads;
 
-/// The example of `lsm_lives`. It answers the replies of the life.
+/// The example of `lsm_lives`. Returns the replies of the life.
 pub fn lead_a_life<R: Threads + Sync>(
     rt: &R,
     alloc: Global,
@@ -27,7 +27,7 @@ pub fn lead_a_life<R: Threads + Sync>(
     Ok(replies)
 }
 
-/// The example of `corwaphi_lives`. It answers the replies of the life.
+/// The example of `corwaphi_lives`. Returns the replies of the life.
 pub fn lead_a_life_of_a_db<R: AllocGlobal>(
     rt: &R,
     calls: Vec<DbCall>,
@@ -41,7 +41,7 @@ pub fn lead_a_life_of_a_db<R: AllocGlobal>(
     Ok(replies)
 }
 
-/// The example of `lsm_explore`. It answers how many crashes showed what may not be.
+/// The example of `lsm_explore`. Returns how many crashes showed what may not be.
 pub fn explore_a_life<R: Threads + Sync>(
     rt: &R,
     alloc: Global,

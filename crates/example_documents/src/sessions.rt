@@ -10,7 +10,7 @@ use std::sync::{Mutex, Wait};
 use std::thread::{Threads, sleep};
 use std::time::{Clock, Duration};
 
-/// The example of `lsm_shared`. It answers whether there was something to do.
+/// The example of `lsm_shared`. Returns whether there was something to do.
 pub fn take_a_turn<D: Device, B: SessionName, R: Threads + Wait + Sync>(
     rt: &R,
     alloc: Global,

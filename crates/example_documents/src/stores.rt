@@ -16,7 +16,7 @@ pub fn format_a_device<D: Device + Drop>(alloc: Global, device: D) -> Result<D, 
     Ok(device)
 }
 
-/// The example of `lsm_store`, on a device with a store. It answers the value of a key.
+/// The example of `lsm_store`, on a device with a store. Returns the value of a key.
 pub fn commit_and_get<D: Device + Drop>(
     alloc: Global,
     device: D,
@@ -32,7 +32,7 @@ pub fn commit_and_get<D: Device + Drop>(
     Ok(value)
 }
 
-/// The example of `lsm_upkeep`. It answers the number of the batch.
+/// The example of `lsm_upkeep`. Returns the sequence number of the batch.
 pub fn write_with_upkeep<D: Device + Drop>(
     alloc: Global,
     mut store: Store<D>,

@@ -1,4 +1,4 @@
--- What comes behind what was heard.
+-- What comes after what was heard.
 use Rattle.std.proofs.Common.{◌≡◌, ℕ, List, [], ◌∷◌, ◌++◌, ap, sym, ◌∙◌, append_assoc, refl, subst}
 use mathlib.Core.List.{IsPrefix}
 use Rattle.lsm_machine.specs.Calls.{Call}

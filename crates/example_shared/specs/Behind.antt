@@ -1,4 +1,4 @@
--- A call of a client that comes behind what it heard.
+-- A call of a client that comes after what it heard.
 use Rattle.std.specs.Prelude.{◌≡◌, ℕ, List, [], ◌∷◌, ◌++◌}
 use Rattle.lsm_machine.specs.Calls.{Call, Reply, as_told}
 use Rattle.lsm_machine.specs.Machine.{Machine}
@@ -14,7 +14,7 @@ pub record ComesBehind (told : List Event) (client : ℕ) (call : Call) (answer 
   pub machine : Machine
   pub are : log ≡ (told ++ between) ++ called client call reply machine ∷ []
 
--- so it is of a call behind another client's call
+-- so it is of a call after another client's call
 pub record StandsBehind (one : ℕ) (first : Call) (answer : Told) (two : ℕ) (second : Call) (also : Told) (log : List Event) : Type 0 where
   pub told : List Event
   pub before : ComesBehind [] one first answer told

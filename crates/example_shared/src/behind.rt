@@ -1,4 +1,4 @@
-// A call that comes behind another client's.
+// A call that comes after another client's.
 ghost use Rattle.std.specs.Prelude.{◌≡◌, IfOk};
 ghost use Rattle.lsm_lives.specs.Calls.{call_of, told_of};
 ghost use Rattle.lsm_shared.specs.Clients.{MakesCall};
@@ -27,7 +27,7 @@ fn make_and_tell<B: SessionName, R: Wait>(
     Ok((me, reply, seen))
 }
 
-// Hears what another tells, and makes a call behind that.
+// Hears what another tells, and makes a call after that.
 fn hear_and_make<B: SessionName, R: Wait>(
     rt: &R,
     shared: &Shared<MemDevice, Global, B>,
@@ -43,7 +43,7 @@ fn hear_and_make<B: SessionName, R: Wait>(
 }
 
 /// Lets one client make a call in a thread of its own, which hands over what it has seen. Another hears that, and makes a call: it
-/// stands behind the first one in the history.
+/// comes after the first one in the history.
 pub fn call_behind<B: SessionName + Send + Sync, R: Threads + Wait + Sync>(
     rt: &R,
     shared: &Shared<MemDevice, Global, B>,

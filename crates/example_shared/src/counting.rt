@@ -85,9 +85,9 @@ fn put_if_still<B: SessionName, R: Wait>(
     is_added(reply)
 }
 
-/// Raises the counter under a key by one, and answers what it is then. Other clients may raise it at the same time: the batch is
-/// added only where the key still has the value that was got. Where it has not, GuardFailed, the value is got once more, and
-/// the batch made of that. After so many tries in vain it is none.
+/// Raises the counter under a key by one, and returns what it is then. Other clients may raise it at the same time: the batch is
+/// added only where the key still has the value that was got. Where it has not, GuardFailed, the value is got once more, and the
+/// batch made of that. `None` after `tries` failed tries.
 pub fn raise<B: SessionName, R: Wait>(
     rt: &R,
     alloc: Global,

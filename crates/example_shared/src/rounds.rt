@@ -1,5 +1,5 @@
-// A service that goes on for ever, by rounds: a trail has so many entries and a log so many sectors, and then all clients come
-// back, the session ends, the store is settled, and the next session begins.
+// A service that goes on for ever, by rounds: when the trail or the log is full all clients return, the session ends, the
+// store is settled, and the next session begins.
 ghost use Rattle.std.specs.Prelude.{◌≡◌};
 
 use crate::client::batch_of;
@@ -97,8 +97,8 @@ fn play<B: SessionName + Send + Sync, R: Threads + Wait + Sync>(
     }
 }
 
-/// Lets two clients put so many keys each, in as many sessions as that takes, each of so many entries at most. It returns the store
-/// and the number of the sessions.
+/// Lets two clients put `keys` keys each, in as many sessions as that takes, each of at most `entries` entries. It returns the
+/// store and the number of the sessions.
 ///
 /// At `TrailFull` and at `LogFull` both clients come back, [`Shared::finish`] gives the store, [`settle`] flushes its logs, and the
 /// next session begins. No key is put twice. A round in which neither client put anything ends the service with `LogFull`: there is

@@ -54,7 +54,7 @@ fn in_threads<B: SessionName + Send + Sync, R: Threads + Wait + Sync>(
     }
 }
 
-// Lets two clients put a value each, and sync, in a session of so many clients.
+// Lets two clients put a value each, and sync, in a session of `clients` clients.
 fn store_both<R: Threads + Wait + Sync>(
     rt: &R,
     alloc: Global,

@@ -33,7 +33,7 @@ fn has_ended<B: SessionName, R: Threads + Wait + Sync>(
     Ok(!busy && calls >= CALLS)
 }
 
-// Works until the other clients have made all their calls and nothing is left to do, for so many turns at most.
+// Works until the other clients have made all their calls and nothing is left to do, for at most `TURNS` turns.
 pub(crate) fn work<B: SessionName, R: Threads + Wait + Sync>(
     rt: &R,
     alloc: Global,

@@ -21,7 +21,7 @@ use lsm_open::format;
 use lsm_store::{At, Store};
 use std::alloc::Global;
 
-// Puts a batch and makes it outlast crashes.
+// Puts a batch and makes it durable.
 fn put_synced(store: &mut Store<MemDevice>, batch: &Batch) -> Result<(), Refusal>
     ensures backed { OnOk result (IsBacked store.old → IsBacked store.new) }
     ensures state { OnOk result ((number : ℕ) × (store.new.state ≡ next (next store.old.state (Commit batch.now) (Number number)) Sync Done)) }
@@ -45,8 +45,7 @@ fn look_up(alloc: Global, device: MemDevice, key: &[u8]) -> Result<Option<Vec<u8
     }
 }
 
-/// Makes a store, puts a value, makes it outlast crashes, and looks it up after a crash that keeps any of the pending
-/// writes.
+/// Makes a store, puts a value, makes it durable, and looks it up after a crash that keeps any of the pending writes.
 pub fn survive(
     alloc: Global,
     device: MemDevice,

@@ -203,7 +203,7 @@ module _ (deed : Deed) (old new : StoreView) where
       let r = committed number c h in
       (r.0, subst (Does deed (map_in old)) (sym r.1) (does (map_in old) deed h.queue r.0))
 
--- ---- behind a question
+-- ---- after a question
 
 module _ (old asked new : StoreView) (asks : Asks old asked) where
   pub done_behind : (deed : Deed) → HasCommittedUnder deed asked new → HasCommitted deed old new

@@ -47,7 +47,7 @@ pub record Commits (deed : Deed) (old : StoreView) (told : Reply) (new : StoreVi
   pub asks : Asks old asked
   pub commits : CommitsUnder deed asked told new
 
--- So it was, and this is the number of the batch.
+-- So it was, and this is the batch's sequence number.
 abbrev pub HasCommitted : Deed → StoreView → StoreView → Type 0
 HasCommitted deed old new = (batch : ℕ) × Commits deed old (Number batch) new
 
@@ -60,7 +60,7 @@ HasFinished false number old new = Asks old new
 abbrev pub IsRefused : (Deed → Type 0) → Refusal → StoreView → StoreView → Type 0
 IsRefused Meant refusal old new = Asks old new ⊎ ((deed : Deed) × Meant deed × Commits deed old (Refused refusal) new)
 
--- And so it is behind the question.
+-- And so it is after the question.
 abbrev pub HasCommittedUnder : Deed → StoreView → StoreView → Type 0
 HasCommittedUnder deed old new = (batch : ℕ) × CommitsUnder deed old (Number batch) new
 

@@ -88,7 +88,7 @@ pub record Tells (deeds : List Deed) (m : Map) : Type 0 where
   -- a task that was added is there, with its bytes
   pub added : (number : ℕ) (task : Bytes) → IsAdded deeds number task → GoesOn (Waiting task) (status m number)
 
--- A map tells of a beginning of these deeds that has at least so many.
+-- A map tells of a beginning of these deeds that has at least `least`.
 pub record TellsBeginning (least : ℕ) (deeds : List Deed) (m : Map) : Type 0 where
   pub holds : ℕ
   pub at_least : least ≤ holds

@@ -14,8 +14,8 @@ pub fn deeds_change_one_task()
     ensures empty { IsQueue finite.empty }
 {}
 
-/// The map after deeds tells of each task just what they have done to it. What becomes of a task is never undone by deeds
-/// behind them, and it is claimed once at most.
+/// The map after deeds tells of each task just what they have done to it. What becomes of a task is never undone by later
+/// deeds, and it is claimed once at most.
 pub fn deeds_are_told()
     ensures told { (deeds : List Deed) → AreDone finite.empty deeds → Tells deeds (map_after finite.empty deeds) }
     ensures onward { (deeds more : List Deed) → AreDone finite.empty (deeds ++ more) → (number : ℕ) → GoesOn (status (map_after finite.empty deeds) number) (status (map_after finite.empty (deeds ++ more)) number) }

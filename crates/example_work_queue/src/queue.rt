@@ -12,7 +12,7 @@ use std::alloc::Global;
 use std::marker::Model;
 
 /// A queue of tasks, which owns all rows of its store. Contracts see it as the store that it is, whose map tells the status of each task.
-/// A store with other rows is no queue; where a call meets one it is refused with `BadValue` or `BadKey`.
+/// A store with other rows is no queue; where a call meets one it fails with `BadValue` or `BadKey`.
 pub struct Queue<D: Device> {
     alloc: Global,
     db: Db<D>,
@@ -53,10 +53,10 @@ impl<D: Device> Queue<D> {
         db
     }
 
-    /// Adds a task, and answers its number, from 1 on. It outlasts a crash from the next sync on.
+    /// Adds a task, and returns its number, from 1 on. The next sync makes it durable.
     ///
-    /// It is refused with `BadValue` for a task above 2,048 bytes, with `Exhausted` where 2^64 - 1 were added, and as
-    /// [`get`](Db::get) and [`write_if`](Db::write_if) of the store are. A refused task is not there, but after `Io` a crash may leave it.
+    /// Fails with `BadValue` for a task above 2,048 bytes, with `Exhausted` where 2^64 - 1 were added, and as [`get`](Db::get) and
+    /// [`write_if`](Db::write_if) of the store. A refused task is not there, but after `Io` a crash may leave it.
     pub fn add(&mut self, task: &[u8]) -> Result<u64, Refusal>
         ensures commits { MatchResult result
             (λ number. HasCommitted (Adds number task.now) self.old self.new)
@@ -77,10 +77,10 @@ impl<D: Device> Queue<D> {
         Ok(number)
     }
 
-    /// Claims the task that has waited longest, and answers its number and its bytes; none where no task waits.
+    /// Claims the task that has waited longest, and returns its number and its bytes; `None` where no task waits.
     ///
-    /// It is refused as [`page`](Db::page) and [`write_if`](Db::write_if) of the store are. Then it waits still, but after `Io` a crash
-    /// may leave it claimed.
+    /// Fails as [`page`](Db::page) and [`write_if`](Db::write_if) of the store. Then it waits still, but after `Io` a crash may leave
+    /// it claimed.
     pub fn claim(&mut self) -> Result<Option<(u64, Vec<u8>)>, Refusal>
         ensures commits { MatchResult result
             (λ found. MatchOption found (Asks self.old self.new) (λ f. HasCommitted (Claims f.0 f.1.items) self.old self.new))
@@ -103,10 +103,10 @@ impl<D: Device> Queue<D> {
         }
     }
 
-    /// Finishes the task of a number, and forgets it, where it is claimed. Tells whether it was.
+    /// Finishes the task of a number, and forgets it, where it is claimed. Returns whether it was.
     ///
-    /// It is refused as [`get`](Db::get) and [`write_if`](Db::write_if) of the store are. Then it is claimed still, but after `Io` a
-    /// crash may leave it finished.
+    /// Fails as [`get`](Db::get) and [`write_if`](Db::write_if) of the store. Then it is claimed still, but after `Io` a crash may
+    /// leave it finished.
     pub fn finish(&mut self, number: u64) -> Result<bool, Refusal>
         ensures commits { MatchResult result
             (λ finished. HasFinished finished number self.old self.new)
@@ -128,7 +128,7 @@ impl<D: Device> Queue<D> {
         }
     }
 
-    /// Makes all that was done so far outlast a crash. It is refused as [`sync`](Db::sync) of the store is.
+    /// Makes all that was done so far durable. Fails as [`sync`](Db::sync) of the store.
     pub fn sync(&mut self) -> Result<(), Refusal>
         ensures serves { Serves self.old Sync (reply_of (λ _. Done) result) self.new }
         ensures same { map_in self.new ≡ map_in self.old }

@@ -19,7 +19,7 @@ pub(crate) fn number_bytes(number: u64) -> [u8; 8]
     bytes
 }
 
-// The bytes of a number behind a letter.
+// The bytes of a number after a letter.
 #[tactic(auto, unfolding(crate::specs::Tasks::number_bytes))]
 fn behind(letter: u8, number: u64) -> [u8; 9]
     ensures { result ≡ letter ∷ number_bytes number }
@@ -65,7 +65,7 @@ pub(crate) fn last_number(row: &Option<Vec<u8>>) -> Result<u64, Refusal>
     }
 }
 
-// The number in a key, behind its letter.
+// The number in a key, after its letter.
 fn number_behind(key: &[u8]) -> Option<u64>
     ensures { IfSome result (λ number. number ≡ number_in (drop 1 key.now)) }
 {

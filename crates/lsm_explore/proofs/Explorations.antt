@@ -61,7 +61,7 @@ whole_life sectors asked told whole count led memory no_fault counts = (whole, r
 
 -- ---- openings
 
--- openings with the first so many fuses
+-- openings with the first fuses, `fuses` of them
 pub record OpeningsSoFar (sectors : Sectors) (fuses : ℕ) (old new : Explored) : Type 0 where
   pub ends : List Medium
   pub each : AreEndsFrom sectors [] 0 ends
@@ -119,7 +119,7 @@ crash_judged sectors old mid new counts is = subst (AddsCrashes (sectors ∷ [])
   wrong = counts.wrong;
 })
 
--- one behind which the openings are explored
+-- one crash, after which the openings are explored
 pub crash_reopened : (sectors : Sectors) (old mid new : Explored) → CountsFirst old mid → AddsOpenings sectors mid new → AddsCrashes (sectors ∷ []) true old new
 crash_reopened sectors old mid new counts adds = record {
   again = adds.ends ∷ [];
@@ -135,7 +135,7 @@ reopened_too : (twice : Bool) (left more : List Sectors) (again rest : List (Lis
 reopened_too true left more again rest are others = reopened_both left again more rest are others
 reopened_too false left more again rest are others = reopened_both [] again [] rest are others
 
--- some behind others
+-- some after others
 pub crashes_both : (left more : List Sectors) (twice : Bool) (old mid new : Explored) → AddsCrashes left twice old mid → AddsCrashes more twice mid new → AddsCrashes (left ++ more) twice old new
 crashes_both left more twice old mid new before adds = record {
   again = before.again ++ adds.again;
@@ -146,7 +146,7 @@ crashes_both left more twice old mid new before adds = record {
   wrong = adds.wrong ∙ before.wrong;
 }
 
--- crashes of a life by the first so many masks, and by one more
+-- crashes of a life by the first i masks, and by one more
 pub crashes_more : {M : Type 0} (sectors_by : M → Sectors) (masks : List M) (i : ℕ) (mask : M) (twice : Bool) (old mid new : Explored) → i < length masks → get_or masks i mask ≡ mask
     → AddsCrashes (map sectors_by (take i masks)) twice old mid → AddsCrashes (sectors_by mask ∷ []) twice mid new → AddsCrashes (map sectors_by (take (i + 1) masks)) twice old new
 crashes_more sectors_by masks i mask twice old mid new within is before adds =
@@ -154,7 +154,7 @@ crashes_more sectors_by masks i mask twice old mid new within is before adds =
     ap (map sectors_by) (take_more masks i mask within ∙ ap (λ m. take i masks ++ m ∷ []) is) ∙ map_push sectors_by (take i masks) mask in
     subst (λ (l : List Sectors). AddsCrashes l twice old new) (sym parts) (crashes_both (map sectors_by (take i masks)) (sectors_by mask ∷ []) twice old mid new before adds)
 
--- what was told behind the first
+-- what was told after the first
 pub behind_first : {A : Type 0} (replies : List (GivenReply A)) → map told_of (take (length replies - 1) (drop 1 replies)) ≡ drop 1 (map told_of replies)
 behind_first replies = ap (map told_of) (take_rest replies 1) ∙ sym (drop-map told_of 1 replies)
 
@@ -193,7 +193,7 @@ opening_explored sectors fuse end old mid new is_end same more second others = r
 
 -- ---- lives
 
--- lives with the first so many fuses
+-- lives with the first fuses, `fuses` of them
 pub record LivesSoFar (sectors : Sectors) (asked : List Asked) (fuses : ℕ) (twice : Bool) (new : Explored) : Type 0 where
   pub ends : List Medium
   pub each : AreEndsFrom sectors asked 0 ends

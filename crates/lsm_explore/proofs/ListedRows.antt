@@ -34,7 +34,7 @@ pub length-rows : (rows : List RowRef) → length (rows_of rows) ≡ length rows
 length-rows [] = refl
 length-rows (row ∷ rows) = ap suc (length-rows rows)
 
--- the slice behind the first so many
+-- the slice after the first n
 rest_is : (n : ℕ) (rows : List RowRef) → take (length rows - n) (drop n rows) ≡ drop n rows
 rest_is n rows = take_all (length rows - n) (drop n rows) (omega (arith, length-drop n rows))
 

@@ -150,7 +150,7 @@ stopped_flies results (Own own) (Built number tables) reply after told stopped =
 stopped_flies results (Build job parts) told reply after is stopped = refl
 stopped_flies results (AcceptBuilt job number) told reply after is stopped = refl
 
--- so behind a fault of a write the batch in flight stays
+-- so after a fault of a write the batch in flight stays
 stays_in_flight : (results : List MergeResult) (m : Machine) (asked : List Asked) (told : List Told) (steps : List Step) (replies : List Reply) → IsSome m.state.stopped → Run m steps replies
     → AreTold results asked told steps replies → (flight : List (List Operation)) → flies_behind flight (steps_of asked) (replies_of told) ≡ flight
 stays_in_flight results m [] [] steps replies stopped run are flight = refl
@@ -168,7 +168,7 @@ stays_in_flight results m (first ∷ asked) [] steps replies stopped run are fli
 abbrev IsCovered : List (List Operation) → List (List Operation) → Type 0
 IsCovered flight told = (flight ≡ []) ⊎ (flight ≡ told)
 
--- by one step of the store's own, whatever is told of those behind it
+-- by one step of the store's own, whatever is told of those after it
 own_covered : (m : Machine) (step : Step) (reply : Reply) (steps : List Step) (replies : List Reply) (own_steps : List Step) (told : List Reply)
     → ((before : List (List Operation)) → IsCovered (in_flight steps replies) (flies_behind before own_steps told))
     → (IsSome (next_machine m step reply).state.stopped → (before : List (List Operation)) → flies_behind before own_steps told ≡ before)

@@ -49,7 +49,7 @@ put_at_place key value (row ∷ rows) = by (byte_order key row.0) refl (put_at_p
 abbrev without : Bytes → Pairs → Pairs
 without key rows = where_key byte_order (λ x. not (eq_by_cmp byte_order key x)) rows
 
--- keys that come behind one stay where that is taken out
+-- keys that come after one stay where that is taken out
 all_stay : (key : Bytes) (rows : Pairs) → AreAbove key rows → without key rows ≡ rows
 all_stay key [] h = refl
 all_stay key (row ∷ rows) h = rw h.0 (ap (λ (l : Pairs). row ∷ l) (all_stay key rows h.1))

@@ -39,9 +39,9 @@ abbrev pub last_of : List (List Operation) → List (List Operation) → List (L
 last_of before [] = before
 last_of before (batch ∷ rest) = batch ∷ rest
 
--- The batch that may be in flight behind these steps, where this one may have been before: that of the last commit that was told
--- of a fault. Where a guard's read faulted, nothing is in flight, but that is told in the same words; the steps behind it go on.
--- Behind a write that faulted each is told that the store is stopped.
+-- The batch that may be in flight after these steps, where this one may have been before: that of the last commit that was told
+-- of a fault. Where a guard's read faulted, nothing is in flight, but that is told in the same words; the steps after it go on.
+-- After a write that faulted each is told that the store is stopped.
 abbrev pub flies_behind : List (List Operation) → List Step → List Reply → List (List Operation)
 flies_behind before (step ∷ steps) (reply ∷ replies) = flies_behind (last_of before (flies_by step reply)) steps replies
 flies_behind before steps replies = before
@@ -55,12 +55,12 @@ batches_in asked told = accepted (steps_of asked) (replies_of told) ++ flies_beh
 abbrev pub least_in : List Asked → List Told → ℕ
 least_in asked told = acknowledged 0 (steps_of asked) (replies_of told)
 
--- the maps after each beginning of batches that holds at least so many
+-- the maps after each beginning of batches that holds at least `least`
 abbrev pub maps_from : ℕ → List (List Operation) → List Map
 maps_from least batches = apply_all finite.empty (take least batches) ∷ maps_after (apply_all finite.empty (take least batches)) (drop least batches)
 
--- The sectors stand for the map after a beginning of the batches that holds at least so many, at just that count; and there are more
--- than so many generations before the last one.
+-- The sectors stand for the map after a beginning of the batches that holds at least `least`, at just that count; and there are more
+-- than `spare` generations before the last one.
 pub record MayBeLeft (spare least : ℕ) (batches : List (List Operation)) (sectors : List (List ℕ)) : Type 0 where
   pub log_sectors : ℕ
   pub kept : List (List Operation)

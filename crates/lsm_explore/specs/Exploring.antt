@@ -95,7 +95,7 @@ pub record IsExploredFrom (sectors : Sectors) (asked : List Asked) (twice : Bool
   pub second : explored.second ≡ left_again again
   pub skipped : explored.skipped ≡ skipped_in ends + skipped_again again
 
--- on the sectors that a format left, of which there are so many
+-- on the `size` sectors that a format left
 pub record IsExplored (size log_sectors : ℕ) (asked : List Asked) (twice : Bool) (explored : Explored) : Type 0 where
   pub sectors : Sectors
   pub sized : length sectors ≡ size
@@ -122,7 +122,7 @@ pub record AddsOpenings (sectors : Sectors) (old new : Explored) : Type 0 where
   pub skipped : new.skipped ≡ old.skipped + skipped_in ends
   pub wrong : new.wrong ≡ old.wrong
 
--- crashes of a life that left these, and the openings behind them, where these are explored too
+-- crashes of a life that left these, and the openings after them, where these are explored too
 pub record AddsCrashes (left : List Sectors) (twice : Bool) (old new : Explored) : Type 0 where
   pub again : List (List Medium)
   pub are_reopened : AreReopened (if twice then left else []) again

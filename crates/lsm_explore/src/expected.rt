@@ -23,7 +23,7 @@ pub(crate) struct Batches<'s, A: Allocator> {
     pub(crate) least: usize,
 }
 
-/// The maps of which a crash may leave one, the first of them after so many batches, and each other one after one batch more.
+/// The maps of which a crash may leave one, the first after `least` batches, and each other one after one batch more.
 #[derive(Drop)]
 pub(crate) struct Expected<'s, A: Allocator> {
     pub(crate) least: usize,
@@ -52,7 +52,7 @@ fn flies_by<'s, A: Allocator>(step: &'s Step<A>, reply: &Reply<A>) -> Option<&'s
     }
 }
 
-// Whether a reply acknowledges all batches that were accepted before it, where so many of them were.
+// Whether a reply acknowledges all batches that were accepted before it, where `known` already were acknowledged.
 fn acknowledges<A: Allocator>(step: &Step<A>, reply: &Reply<A>, known: usize) -> bool
     ensures { (done : ℕ) → (if result then done else known) ≡ acknowledged_by 0 done known (step_in [] (asked_of step.now)) (reply_in (told_of reply.now)) }
 {
@@ -65,7 +65,8 @@ fn acknowledges<A: Allocator>(step: &Step<A>, reply: &Reply<A>, known: usize) ->
     }
 }
 
-// How many of the accepted batches are acknowledged after a step, where so many were accepted before it.
+// How many of the accepted batches are acknowledged after a step, where `accepted` were accepted before it and `known`
+// acknowledged.
 fn acknowledged<A: Allocator>(
     step: &Step<A>,
     reply: &Reply<A>,
@@ -163,7 +164,7 @@ pub(crate) fn expected_of<'s, A: Allocator + Clone>(
     })
 }
 
-// The maps after each beginning of the batches that holds at least so many.
+// The maps after each beginning of the batches that holds at least `least`.
 fn maps_from<'s, A: Allocator + Clone>(
     alloc: &A,
     batches: &[&'s Batch<A>],

@@ -44,7 +44,7 @@ pub struct Explored {
     pub wrong: u64,
 }
 
-// One more. Behind the last number the exploration ends.
+// `count` + 1. At the last number the exploration ends.
 fn one_more(count: u64) -> Result<u64, Refusal>
     ensures more { IfOk result (λ more. more ≡ count + 1) }
     ensures refused { IfErr result (λ e. e ≡ NoMemory) }
@@ -104,8 +104,8 @@ fn lead<'i, R: Threads + Sync, A: Allocator + Clone + Send + Sync>(
     Ok(Led { replies, device })
 }
 
-// Leads a life with a fuse on an image until its crash. It is refused where memory was wanting in it: that was told, or not just as
-// many writes and syncs answered Ok as the fuse says.
+// Leads a life with a fuse on an image until its crash. Fails where memory was wanting in it: that was told, or not just as many
+// writes and syncs answered Ok as the fuse says.
 fn lead_fused<'i, R: Threads + Sync, A: Allocator + Clone + Send + Sync>(
     rt: &R,
     alloc: &A,
@@ -410,7 +410,7 @@ fn explore_from<R: Threads + Sync, A: Allocator + Clone + Send + Sync, P: Progre
 /// Where more than 12 writes pend only three masks are tried: none, all, and every second one from the first on. It tells
 /// `progress` of each fuse before it tries it.
 ///
-/// It is refused with `BadGeometry` where the device wouldn't have 8,192 to 1,048,576 sectors, or a log region 128 to 2,048,
+/// Fails with `BadGeometry` where the device wouldn't have 8,192 to 1,048,576 sectors, or a log region 128 to 2,048,
 /// and with `NoMemory`, also where memory was wanting in one of the lives that it leads.
 pub fn explore<R: Threads + Sync, A: Allocator + Clone + Send + Sync, P: Progress>(
     rt: &R,

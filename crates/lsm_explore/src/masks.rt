@@ -7,7 +7,7 @@ use std::alloc::{AllocError, Allocator};
 /// The most pending writes of which each subset is tried.
 const MOST_WRITES: usize = 12;
 
-/// The masks that are tried where so many writes pend.
+/// The masks that are tried where `pending` writes pend.
 pub(crate) fn masks_for<A: Allocator + Clone>(
     alloc: &A,
     pending: usize,
@@ -28,7 +28,7 @@ pub(crate) fn is_skipped(pending: usize) -> bool
     pending > MOST_WRITES
 }
 
-// Each subset of so many writes.
+// Each subset of `pending` writes.
 fn each_mask<A: Allocator + Clone>(
     alloc: &A,
     pending: usize,
@@ -88,7 +88,7 @@ fn three_masks<A: Allocator + Clone>(
     Ok(masks)
 }
 
-// So many writes, all kept.
+// `pending` writes, all kept.
 fn all_kept<A: Allocator>(alloc: A, pending: usize) -> Result<Vec<bool, A>, AllocError>
     ensures { IfOk result (λ mask. mask.items ≡ replicate pending true) }
 {
@@ -99,7 +99,7 @@ fn all_kept<A: Allocator>(alloc: A, pending: usize) -> Result<Vec<bool, A>, Allo
     Ok(mask)
 }
 
-// So many writes, of which every second one from the first on is kept.
+// `pending` writes, of which every second one from the first on is kept.
 fn every_second<A: Allocator>(alloc: A, pending: usize) -> Result<Vec<bool, A>, AllocError>
     ensures { IfOk result (λ mask. mask.items ≡ every_second true pending) }
 {

@@ -21,7 +21,7 @@ fn place_of(rows: &[RowRef<'_>], key: &[u8]) -> usize
     rows.len()
 }
 
-// Where the rows behind a key begin, which has this place.
+// Where the rows after a key begin; the key itself would stand at `place`.
 fn end_of(rows: &[RowRef<'_>], place: usize, key: &[u8]) -> usize
     requires { place ≤ length rows.now }
     ensures end { rows_of (drop result rows.now) ≡ behind key.now (rows_of (drop place rows.now)) }

@@ -10,7 +10,7 @@ use Rattle.lsm_language.specs.Rows.{line_begun, lines_from, lines_of}
 use Rattle.lsm_language.proofs.TextLaws.{take-min}
 use Rattle.lsm_language.specs.Reading.{HasNoNewline, ReadsLine}
 
--- So much of a line was read, and so much of it was kept.
+-- `begun` was read of a line, and its first bytes were kept, at most one more than the most.
 pub record IsReading (most : ℕ) (before : Option (List ℕ)) (kept : List ℕ) (left : Option (List ℕ)) : Type 0 where
   pub begun : List ℕ
   pub cut : kept ≡ take (most + 1) begun
@@ -170,7 +170,7 @@ later (b ∷ part) begun rest none =
     rw (ne_eqb b 10 (All-head (λ (x : ℕ). x ≢ 10) b part none)) (later part (begun ++ b ∷ []) rest (All-tail (λ (x : ℕ). x ≢ 10) b part none)
     ∙ ap (λ (l : List ℕ). lines_from l rest) (append_assoc begun (b ∷ []) part))
 
--- what is kept of a line, and of a part behind it
+-- what is kept of a line, and of a part after it
 cut_more : (most : ℕ) (kept longer begun part : List ℕ) → kept ≡ take (most + 1) begun → longer ≡ take (most + 1) (kept ++ part) → longer ≡ take (most + 1) (begun ++ part)
 cut_more most kept longer begun part cut is = is ∙ ap (λ (l : List ℕ). take (most + 1) (l ++ part)) cut ∙ take-take_append (most + 1) begun part
 

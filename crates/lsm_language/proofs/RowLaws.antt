@@ -17,7 +17,7 @@ pub says_utf8 : (text line : List ℕ) (r : Result Operation Unread) → IsUtf8 
     → Reads (λ op. op) (utf8_row text) r
 says_utf8 text line r u e h = rw (is_utf8-from_IsUtf8 text u) (rw (sym e) h)
 
--- and one that is not is none
+-- and one that is not has no row
 pub no_row : (text : List ℕ) → ¬ (IsUtf8 text) → utf8_row text ≡ None
 no_row text n = rw (is_utf8-not text n) refl
 
@@ -36,7 +36,7 @@ row_short line row said = by (nat_le (length line) most_row) refl said
         none_is : None ≡ Some row → ⊥
         none_is e = cc
 
--- so it was kept whole, and what stands behind it is left
+-- so it was kept whole, and what comes after it is left
 pub row_whole : (before after : Option (List ℕ)) (kept : List ℕ) (row : Operation) → ReadsLine most_row before true kept after → row_said kept ≡ Some row
     → IfSome before (λ text. (rest : List ℕ) × (after ≡ Some rest) × (lines_of text ≡ kept ∷ lines_of rest))
 row_whole None after kept row reads said = tt
@@ -44,7 +44,7 @@ row_whole (Some text) after kept row (line, is, (rest, lines, left)) said =
     let w = kept_whole most_row line (subst (λ (l : List ℕ). length l ≤ most_row) is (row_short kept row said)) in
     (rest, left w.0, lines ∙ ap (λ (l : List ℕ). l ∷ lines_of rest) (sym (is ∙ w.1)))
 
--- and if none was kept, the line is none
+-- and if none was kept, the line is no row
 pub no_row_first : (before after : Option (List ℕ)) (kept : List ℕ) → ReadsLine most_row before true kept after → row_said kept ≡ None
     → IfSome before (λ text. (line : List ℕ) × (rest : List ℕ) × (lines_of text ≡ line ∷ lines_of rest) × (row_said line ≡ None))
 no_row_first None after kept reads said = tt

@@ -1,4 +1,4 @@
--- What stands behind a letter, and around another.
+-- What comes after a letter, and around another.
 use Rattle.std.proofs.Common.{◌≡◌, ◌≢◌, ◌<◌, ◌==◌, ℕ, Bool, true, false, List, [], ◌∷◌, length, Bor, Option, Some, None, option_map, MatchOption, refl, ap, arith}
 use Rattle.std.specs.List.{position_or_len, before_first, after_first}
 use Rattle.lsm_language.specs.Words.{after, pair_in}

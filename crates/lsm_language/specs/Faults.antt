@@ -40,7 +40,7 @@ status_of unread = 1
 status_of unwritten = 1
 status_of mistake = 2
 
--- `refused`, the number in two digits, and the name; and behind it the place of a guard, where it tells one
+-- `refused`, the number in two digits, and the name; then the place of a guard, where it tells one
 abbrev pub place_text : Option ℕ → List ℕ
 place_text None = []
 place_text (Some place) = codes " " ++ decimal place

@@ -1,4 +1,4 @@
--- What stands behind the mark of a word: a key alone, or a key with a value.
+-- What follows the mark of a word: a key alone, or a key with a value.
 use Rattle.std.specs.Prelude.{ℕ, List, Option, Some, None, option_map, option_and_then}
 use Rattle.lsm_codec.specs.Keys.{Bytes}
 use Rattle.lsm_codec.specs.Words.{bytes_said}
@@ -13,7 +13,7 @@ pair_said pair = option_and_then (λ key. option_map (λ value. (key, Some value
 abbrev pub key_said : List ℕ → Option (Bytes × Option Bytes)
 key_said word = option_map (λ key. (key, None)) (bytes_said word)
 
--- a pair where its mark is there, and else a key behind its own
+-- a pair where its mark is there, and else a key after its own
 abbrev pub keyed_said : Option (List ℕ) → Option (List ℕ) → Option (Bytes × Option Bytes)
 keyed_said (Some pair) key = option_and_then pair_said (pair_in pair)
 keyed_said None (Some key) = key_said key

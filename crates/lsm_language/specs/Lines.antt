@@ -55,7 +55,7 @@ some_said said (change ∷ changes) = Some (said (change ∷ changes))
 abbrev pub commit_said : List (List ℕ) → Option Said
 commit_said words = option_and_then (some_said batch_said) (changes_said words)
 
--- guards up to the word `then`, after those that were read, and operations behind it
+-- guards up to the word `then`, after those that were read, and operations after it
 abbrev pub if_said : List Condition → List (List ℕ) → Option Said
 if_said guards [] = None
 if_said guards (word ∷ words) = if bytes_eq word (codes "then") then option_and_then (some_said (guarded_said guards)) (changes_said words)

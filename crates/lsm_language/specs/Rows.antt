@@ -12,7 +12,7 @@ abbrev pub line_begun : List ℕ → List (List ℕ)
 line_begun [] = []
 line_begun (b ∷ bs) = (b ∷ bs) ∷ []
 
--- the lines of a text behind the beginning of one
+-- the lines of a text after the beginning of one
 abbrev pub lines_from : List ℕ → List ℕ → List (List ℕ)
 lines_from line [] = line_begun line
 lines_from line (b ∷ text) = if b == 10 then line ∷ lines_from [] text else lines_from (line ++ b ∷ []) text
@@ -53,7 +53,7 @@ abbrev pub with_row : Option Operation → List Operation → List Operation
 with_row None rows = []
 with_row (Some row) rows = row ∷ rows
 
--- the rows of lines, up to the first line that is none
+-- the rows of lines, up to the first line that is no row
 abbrev pub rows_of : List (List ℕ) → List Operation
 rows_of [] = []
 rows_of (line ∷ lines) = with_row (row_said line) (rows_of lines)

@@ -9,12 +9,12 @@ use Rattle.lsm_language.specs.declared.fault.Fault.{Fault}
 use Rattle.lsm_language.specs.declared.script.Kind.{Kind}
 use Rattle.lsm_language.specs.declared.script.Kind.TheVariants.{Steps, Lives}
 
--- how many bytes more may be read of the line that an input goes on with, behind one of them
+-- how many bytes more may be read of the line that an input goes on with, after one of them
 abbrev pub room_behind : ℕ → ℕ → ℕ
 room_behind room b = if b == 10 then 300001 else room - 1
 
--- What is read of an input where so many may be. It is all, unless a line has more than 300,000 bytes: of that one byte more is read, and
--- nothing behind it.
+-- What is read of an input where `room` bytes of its line may be. It is all, unless a line has more than 300,000 bytes: of that one byte
+-- more is read, and nothing after it.
 abbrev pub read_within : ℕ → List ℕ → List ℕ
 read_within room [] = []
 read_within room (b ∷ bs) = if room == 0 then [] else b ∷ read_within (room_behind room b) bs
@@ -33,7 +33,7 @@ ends_life crash_all = true
 ends_life (crash places) = true
 ends_life _ = false
 
--- a line may stand where a life begins, or behind its first line
+-- a line may stand where a life begins, or after its first line
 abbrev pub may_stand : Kind → Bool → Said → Bool
 may_stand Steps begins (fuse number) = false
 may_stand Steps begins crash_all = false

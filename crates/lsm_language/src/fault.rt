@@ -34,10 +34,10 @@ pub enum Usage {
     /// A word says no bytes.
     #[error("{place} is {word:?}: expected hex, two digits a byte, or empty for no bytes")]
     Bytes { place: &'static str, word: String },
-    /// A word says neither bytes nor that there are none.
+    /// A word is neither bytes nor says that there is no value.
     #[error("OLD is {word:?}: expected hex, two digits a byte, empty for no bytes, or absent for no value")]
     Old { word: String },
-    /// A line of the script, counted from 1, is none of its language.
+    /// A line of the script, counted from 1, can't be parsed.
     #[error("line {number} of the script can't be read: {line:?}")]
     Line { number: usize, line: String },
     /// A line of the input, counted from 1, is no row.

@@ -47,7 +47,7 @@ impl Geometry {
         self.log_sectors
     }
 
-    /// The data blocks behind superblocks, manifests and log regions.
+    /// The data blocks after superblocks, manifests and log regions.
     pub fn data_blocks(self) -> u32
         ensures { result ≡ data_blocks_of self.sectors self.log_sectors }
     {

@@ -19,7 +19,7 @@ pub fn read_guard(alloc: Global, word: &str) -> Result<Keyed, Unread>
     Ok(read_keyed(alloc, after(word, '?'), after(word, '!'))?)
 }
 
-/// The guards, in their order. It is refused as the first that can't be formed.
+/// The guards, in their order. Fails as the first that can't be formed.
 pub fn guards_of(alloc: Global, wanted: &[Keyed]) -> Result<Vec<Guard>, Refusal>
     ensures { MatchResult result
         (λ guards. (guards_refusal (map condition_of wanted.now) ≡ None) × (guards.items ≡ map condition_of wanted.now))
@@ -32,7 +32,7 @@ pub fn guards_of(alloc: Global, wanted: &[Keyed]) -> Result<Vec<Guard>, Refusal>
     Ok(guards)
 }
 
-/// The guard that asks for a key's value, or for none where there is none beside it.
+/// The guard that asks for a key's value, or for no value where the word gives none.
 pub fn guard(alloc: Global, wanted: &Keyed) -> Result<Guard, Refusal>
     ensures { Answers (guard_refusal (condition_of wanted.now)) result (λ g. g ≡ condition_of wanted.now) }
 {

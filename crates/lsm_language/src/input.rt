@@ -19,7 +19,7 @@ use std::io::{BufRead, BufReader, ErrorKind, Read};
 /// The most bytes of a line of a script.
 pub(crate) const MOST_LINE: usize = 300_000;
 
-/// So many bytes of a line are read at most, by which it is seen that it is too long.
+/// At most this number of bytes of a line is read, which tells whether it is too long.
 const MOST_READ: usize = 300_001;
 
 /// Reads the input where a script is asked for and the words before it are right: to its end, or up to the first byte of a line that is
@@ -95,7 +95,7 @@ fn take_text<I: BufRead>(
     Ok(Some(left))
 }
 
-// How many bytes of a piece are read, where so many may be of the line that it begins in; and how many may be behind them.
+// How many bytes of a piece are read, where `room` may be of the line that it begins in; and how many may be after them.
 fn part_within(read: &[u8], room: usize) -> (usize, usize)
     ensures within { result.0 ≤ length read.now }
     ensures passes { PassesBy room (take result.0 read.now) result.1 }

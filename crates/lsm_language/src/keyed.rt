@@ -7,14 +7,14 @@ ghost use Rattle.lsm_language.specs.Words.{Reads};
 use crate::words::{Unread, bytes, pair_in};
 use std::alloc::Global;
 
-/// A key, and the value that stands beside it where one does.
+/// A key, and the value given with it, if any.
 #[derive(Drop)]
 pub struct Keyed {
     pub key: Vec<u8>,
     pub value: Option<Vec<u8>>,
 }
 
-/// Reads what stands behind the mark of a word: `KEY=VALUE` behind one mark, and else `KEY` behind another.
+/// Reads what follows the mark of a word: `KEY=VALUE` after one mark, else `KEY` after another.
 pub fn read_keyed(alloc: Global, pair: Option<&str>, key: Option<&str>) -> Result<Keyed, Unread>
     ensures { Reads keyed_of (keyed_said (option_map (λ word. word.now) pair.entry) (option_map (λ word. word.now) key.entry)) result }
 {

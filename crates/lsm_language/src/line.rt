@@ -165,7 +165,7 @@ fn commit(alloc: Global, words: &[&str]) -> Result<Line, Unread>
     }
 }
 
-// Reads guards up to the word `then`, and the operations behind it.
+// Reads guards up to the word `then`, and the operations after it.
 fn commit_if(alloc: Global, words: &[&str]) -> Result<Line, Unread>
     ensures { Reads means (if_said [] (map (λ word. word.now) words.now)) result }
 {
@@ -179,7 +179,7 @@ fn commit_if(alloc: Global, words: &[&str]) -> Result<Line, Unread>
     Err(Unread::Malformed)
 }
 
-// Reads the operations behind guards. The guards are formed before the batch.
+// Reads the operations after guards. The guards are formed before the batch.
 fn guarded(alloc: Global, guards: &[Keyed], words: &[&str]) -> Result<Line, Unread>
     ensures { Reads means (option_and_then (some_said (guarded_said (map condition_of guards.now)))
         (changes_said (map (λ word. word.now) words.now))) result }

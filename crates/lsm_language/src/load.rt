@@ -6,7 +6,7 @@ ghost use Rattle.lsm_language.specs.Limits.{is_load};
 
 use lsm_device::Refusal;
 
-/// The clients of a storm, the commits of each, and the workers beside them, within the limits.
+/// The clients of a storm, the commits of each, and the workers, within the limits.
 #[derive(Clone, Copy)]
 pub struct Load {
     clients: u16,

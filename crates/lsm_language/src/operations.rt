@@ -41,7 +41,7 @@ pub(crate) fn read_put(alloc: Global, key: &str, value: &str) -> Result<Keyed, U
     })
 }
 
-/// The batch of the changes, of which there is one at least. It is refused as the first change that it doesn't take.
+/// The batch of the changes, of which there is at least one. Fails as the first change that it doesn't take.
 pub fn batch_of(alloc: Global, first: &Keyed, rest: &[Keyed]) -> Result<Batch, Refusal>
     ensures { Forms (map operation_of (first.now ∷ rest.now)) result }
 {

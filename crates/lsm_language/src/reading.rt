@@ -25,7 +25,7 @@ pub enum Taken {
 }
 
 /// Reads the next line of an input in the place of the one before it, without its newline, which may be missing after the
-/// last. It tells whether there is one. Of a line that has more than the most bytes no more is read once this is seen, and one byte more
+/// last. Returns whether there is one. Of a line that has more than the most bytes no more is read once this is seen, and one byte more
 /// than the most is kept, by which the caller sees it too. An input of which 2^64 - 1 looks don't end a line can't be read.
 pub fn next_line<I: BufRead>(input: &mut I, most: usize, line: &mut Vec<u8>) -> Result<bool, Fault>
     requires { most < 18446744073709551615 }
@@ -53,7 +53,7 @@ fn is_line(line: &[u8]) -> bool
     !line.is_empty()
 }
 
-// Takes what was read of a line, and keeps it behind what is kept of it.
+// Takes what was read of a line, and appends it to what is kept of it.
 fn take_piece<I: BufRead>(input: &mut I, most: usize, line: &mut Vec<u8>) -> Result<Taken, Fault>
     requires few { length line.old.items ≤ most }
     requires most { most < 18446744073709551615 }

@@ -5,8 +5,8 @@ ghost use Rattle.std.specs.Prelude.{◌≡◌};
 use lsm_device::Refusal;
 use std::fmt;
 
-/// A refusal as the program prints it: `refused`, its number in two digits, and its name; and behind it the place of the guard that is
-/// false, where it tells one.
+/// A refusal as the program prints it: `refused`, its number in two digits, and its name; then the place of the false guard, where it
+/// tells one.
 #[derive(Clone, Copy)]
 pub struct RefusalText {
     refusal: Refusal,

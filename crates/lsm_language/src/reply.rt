@@ -109,7 +109,7 @@ pub fn stat_text(alloc: Global, stat: &Stat) -> Result<String, Refusal>
     Ok(text)
 }
 
-/// Adds a number behind the words for what it counts.
+/// Appends a number after the words for what it counts.
 pub fn push_number(text: &mut String, words: &str, number: u64) -> Result<(), Refusal>
     ensures text { OnOk result (string_bytes text.new ≡ string_bytes text.old ++ words.now ++ decimal number) }
     ensures refused { IfErr result (λ e. e ≡ NoMemory) }

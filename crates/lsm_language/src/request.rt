@@ -53,7 +53,7 @@ pub enum Request<'a> {
         file: &'a str,
         key: Vec<u8>,
     },
-    /// Print so many keys with their values, from a key on.
+    /// Print the first `limit` keys with their values, from a key on.
     Scan {
         file: &'a str,
         from: Vec<u8>,
@@ -94,7 +94,7 @@ pub enum Request<'a> {
         script: Vec<Line>,
     },
     /// Stop the steps of a script, on a device in memory, at each write and sync, and crash them by each mask; and so each opening
-    /// behind.
+    /// after that.
     Explore {
         geometry: Geometry,
         script: Vec<Line>,

@@ -64,7 +64,7 @@ fn without_newline(text: &[u8]) -> &[u8]
     }
 }
 
-// Reads a line of this number that may stand where a life begins, or behind its first line.
+// Reads a line of this number that may stand where a life begins, or after its first line.
 fn next_line(
     alloc: Global,
     kind: Kind,

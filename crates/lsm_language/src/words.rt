@@ -13,7 +13,7 @@ use std::alloc::{AllocError, AllocFailed, Global};
 /// Why a line was not read.
 #[derive(Drop)]
 pub enum Unread {
-    /// It is none of the lines of a script.
+    /// It is not a line of a script.
     Malformed,
     /// Memory was refused.
     NoMemory,

@@ -69,7 +69,7 @@ pub replies_more : {A : Type 0} (places : List (Vec (GivenReply A) A)) (i : ℕ)
 replies_more {A} places i new within =
     ap (λ (l : List (Vec (GivenReply A) A)). told_by l) (take_more_set places i new within) ∙ map_push (λ (v : Vec (GivenReply A) A). map told_of v.items) (take i places) new
 
--- one led behind others
+-- one led after others
 module _ (life : LifeView) (told : List Told) (mid after : Medium) (leads : LeadsTo life mid told after) where
   pub led_more : (lives : List LifeView) (before : Medium) (answers : List (List Told)) → AreLed lives before answers mid
       → AreLed (lives ++ life ∷ []) before (answers ++ told ∷ []) after

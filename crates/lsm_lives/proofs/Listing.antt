@@ -116,7 +116,7 @@ above_both from key (e ∷ es) le h = (at_most_below from key e.0 le h.0, above_
 itself : (key : Bytes) → is_le (byte_order key key) ≡ true
 itself key = ap is_le (is_eq_Equal (byte_order key key) (key_itself key))
 
--- behind so many pairs from a key on stand those from the key that comes next
+-- after the first n pairs from a key on come those from the next key
 pub goes_on : (from k : Bytes) (n : ℕ) (es : Pairs) → Rise es → first_key (drop n (from_on from es)) ≡ Some k → from_on k es ≡ drop n (from_on from es)
 goes_on from k zero [] h e = refl
 goes_on from k (suc n) [] h e = refl
@@ -148,7 +148,7 @@ from_none (e ∷ es) = step [] e es true (by e.0) ∙ ap (λ (t : Pairs). e ∷ 
     by [] = refl
     by (b ∷ bs) = refl
 
--- ---- a page, and what comes behind it
+-- ---- a page, and what comes after it
 
 take_same : (n : ℕ) (es : Pairs) → take (length (take n es)) es ≡ take n es
 take_same zero es = refl

@@ -28,7 +28,7 @@ use Rattle.lsm_store.proofs.Works.{works_refused}
 use Rattle.lsm_lives.specs.Asked.{Asked, Told, Own, AcceptBuilt, Replied, result_of, IsTold}
 use Rattle.lsm_lives.specs.Replaying.{Makes}
 
--- what is told of a reply that is none of a read of guards is the reply
+-- what is told of a reply that is not to a read of guards is the reply
 told_plain : {A : Type 0} (answer : GivenReply A) (reply : Reply) → told_of answer ≡ Replied reply → as_told reply ≡ reply
 told_plain (given.Number n) reply is = let same : Number n ≡ reply = cc in subst (λ (r : Reply). as_told r ≡ r) same refl
 told_plain given.Done reply is = let same : Done ≡ reply = cc in subst (λ (r : Reply). as_told r ≡ r) same refl

@@ -155,7 +155,7 @@ alike m n same work steps replies run = by (is_some m.state.stopped) refl
           left = λ left found. left_now left n steps replies (subst (λ (s : State). Contains (may_leave s) left) same (stopped_left left m some steps replies run found));
         }
 
--- one step, and others behind it
+-- one step, and others after it
 module _ (old mid new : StoreView) (step : Step) (reply : Reply) (one : StepsTo old step reply mid) (steps : List Step) (replies : List Reply) (rest : GoOn mid steps replies new) where
   format : IsBacked old → mid.state.log_sectors ≡ old.state.log_sectors
   format backed = one_format mid.state.log_sectors old.state.log_sectors (may_leave mid.state) (left_in_step (machine_of old) step) (disk mid.device) (one.backed backed).crashes

@@ -13,7 +13,7 @@ use Rattle.lsm_machine.specs.Work.{Ask, Accept}
 pub data Asked : Type 0 where
   -- a step of the store
   Own : Step → Asked
-  -- the result of a job's merge, built in so many parts
+  -- the result of a job's merge, built in n parts
   Build : ℕ → ℕ → Asked
   -- to accept for a job the result of a number
   AcceptBuilt : ℕ → ℕ → Asked

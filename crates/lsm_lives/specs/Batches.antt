@@ -77,8 +77,8 @@ abbrev pub taken : List Act → List Reply → List (List Operation)
 taken (act ∷ acts) (reply ∷ replies) = taken_by act reply ++ taken acts replies
 taken acts replies = []
 
--- How many of the accepted batches are acknowledged as synced after a step, where so many were accepted before it and so many of
--- them acknowledged, and the store was opened with a count of batches.
+-- How many of the accepted batches are acknowledged as synced after a step, where `done` were accepted before it, `known` of
+-- them acknowledged, and the store was opened with `opened` batches.
 abbrev pub synced_by : ℕ → ℕ → ℕ → Act → Reply → ℕ
 synced_by opened done known (Calls Sync) Done = done
 synced_by opened done known (Calls (SyncTo number)) Done = if nat_le number (opened + known) then known else done

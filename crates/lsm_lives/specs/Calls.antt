@@ -26,7 +26,7 @@ call_of (call.Release number) = Release number
 call_of call.Rotate = Rotate
 call_of call.Room = LogRoom
 
--- what a piece of work asks for; a build, and an accept of a result by its number, are none of the store's own
+-- what a piece of work asks for; a build, and an accept of a result by its number, are not the store's own
 abbrev pub asked_of_work : GivenWork → Asked
 asked_of_work work.Take = Own (Worked (Take None))
 asked_of_work (work.TakeOf choice) = Own (Worked (Take (Some choice)))

@@ -20,8 +20,8 @@ KeepsBatchesOn log_sectors before opened (acts ∷ lives) (told ∷ rest) d = (a
     × KeepsOn log_sectors before opened acts told after left × KeepsBatchesOn log_sectors after left lives rest d
 KeepsBatchesOn log_sectors before opened lives told d = ⊥
 
--- Lives were led on a device in memory of so many sectors, which then was left so. At first every crash of it left this, and no
--- fuse and no failing call was set.
+-- Lives were led on a device in memory of `sectors` sectors, which then was left so. At first every crash of it left this, and
+-- no fuse and no failing call was set.
 pub record AreLedOn (sectors log_sectors : ℕ) (opened : CrashState) (lives : List LifeView) (answers : List (List Told)) (after : Medium) : Type 0 where
   pub device : Medium
   pub size : device.size ≡ sectors

@@ -49,8 +49,8 @@ pub record BeginsOn (before : Medium) (s : StoreView) : Type 0 where
   pub same_size : s.device.size ≡ before.size
   pub same_lasting : s.device.lasting ≡ before.lasting
 
--- An opening of a device of a fair size was refused behind its first call, a sync. Where it tells of no fault it has made no
--- other change: nothing was written, and what pended stands.
+-- An opening of a device of a fair size was refused after its first call, a sync. Where the error is not Io it made no other
+-- change: nothing was written, and what pended stands.
 pub record FailsBehindSync (before : Medium) (refusal : Refusal) (after : Medium) : Type 0 where
   pub size : IsDeviceSize before.size
   pub begins : BeginsWithSync before.calls after.calls
@@ -64,7 +64,7 @@ pub record FailsOn (before : Medium) (refusal : Refusal) (after : Medium) : Type
   pub size : (IsDeviceSize before.size → ⊥) → (refusal ≡ NoMemory) ⊎ (refusal ≡ BadGeometry)
   pub reason : IsDeviceSize before.size → (opening_refusal (seen (disk before)) ≡ Some refusal) ⊎ ((refusal ≡ NoMemory) ⊎ (refusal ≡ Io))
   pub fault : after.calls.faults ≡ faults_after (is_no_fault refusal) before.calls.faults
-  -- before it called the device, or behind a sync
+  -- before it called the device, or after a sync
   pub called : (after ≡ before) ⊎ FailsBehindSync before refusal after
   -- of what a crash left it leaves the same
   pub fails : (log_sectors : ℕ) (left : CrashState) → StandFor log_sectors left (seen (disk before)) → FailsToOpen before log_sectors left refusal after

@@ -44,7 +44,7 @@ MakesEach results old (asked ∷ more) (told ∷ rest) new = (after : List Merge
 MakesEach results old [] (told ∷ rest) new = ⊥
 MakesEach results old (asked ∷ more) [] new = ⊥
 
--- Behind what was told there is more, that of what was asked.
+-- After what was told comes more, that of what was asked.
 pub record AddsReplies (old : StoreView) (asked : List Asked) (before after : List Told) (new : StoreView) : Type 0 where
   pub more : List Told
   pub added : after ≡ before ++ more
@@ -57,7 +57,7 @@ pub record AreReplayed (results : List MergeResult) (old : StoreView) (asked : L
   pub told : AreTold results asked answers steps replies
   pub replays : Replays old steps replies new
 
--- the faults of a device after these replies, where so many were counted before: one for each reply that tells of one
+-- the faults of a device after these replies, where `faults` were counted before: one more for each reply that tells of one
 abbrev pub faults_told : List Reply → ℕ → ℕ
 faults_told [] faults = faults
 faults_told (reply ∷ replies) faults = faults_told replies (faults_after (is_faultless reply) faults)

@@ -12,9 +12,9 @@ pub enum Call<A: Allocator = Global> {
     Commit(Batch<A>),
     /// Adds a batch where each of these guards is true of the present map.
     CommitIf(Vec<Guard<A>, A>, Batch<A>),
-    /// Makes all batches outlast a crash.
+    /// Makes all batches durable.
     Sync,
-    /// Makes the batches up to this number outlast a crash.
+    /// Makes the batches up to this sequence number durable.
     SyncTo(u64),
     /// Asks for the value of a key.
     Get(At, Vec<u8, A>),
@@ -29,7 +29,7 @@ pub enum Call<A: Allocator = Global> {
     Snapshot,
     /// Forgets the snapshot of this number.
     Release(u64),
-    /// Closes the open log, opens a new one behind all batches, and makes them outlast a crash.
+    /// Closes the open log, opens a new one after all batches, and makes them durable.
     Rotate,
     /// Asks for the free sectors of the open log.
     Room,
@@ -44,7 +44,7 @@ pub enum Work {
     TakeOf(Choice),
     /// Reads data blocks of a job's tables.
     Read(u64),
-    /// Builds the result of a job's merge, in so many parts.
+    /// Builds the result of a job's merge, in `parts` parts.
     Build { job: u64, parts: u64 },
     /// Accepts the result of a number for a job.
     Accept { job: u64, result: u64 },

@@ -39,7 +39,7 @@ pub struct Life<A: Allocator = Global> {
 /// makes the steps and crashes. Its replies are first the number of batches that its opening found, or the refusal of
 /// that, and then those of the steps; where the opening was refused, each of these is `Stopped`.
 ///
-/// It is refused with `NoMemory` alone, where there is no place for all replies and results, before anything is done. It gives
+/// Fails only with `NoMemory`, where there is no place for all replies and results, before anything is done. It gives
 /// the device back, as the last crash left it.
 pub fn lives<R: Threads + Sync, A: Allocator + Clone + Send + Sync, B: Allocator>(
     rt: &R,
@@ -212,7 +212,7 @@ pub fn open_and_make<R: Threads + Sync, A: Allocator + Clone + Send + Sync, D: D
     }
 }
 
-/// Opens the store of a device that tells what it holds, with a cache of [`CACHE_BLOCKS`]. It is refused as that is, and with
+/// Opens the store of a device that tells what it holds, with a cache of [`CACHE_BLOCKS`]. Fails as that does, and with
 /// `NoMemory`; it hands the device back then.
 pub fn open<D: Device, A: Allocator + Clone>(
     alloc: &A,

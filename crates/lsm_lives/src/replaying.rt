@@ -12,10 +12,10 @@ use lsm_store::Store;
 use std::alloc::{Allocator, Global};
 use std::thread::Threads;
 
-/// Makes the steps of a store, one after another, and answers their replies. What is refused is a reply, and the steps go
-/// on. Results of builds are numbered from 1 on, and are let go at the end.
+/// Makes the steps of a store, one after another, and returns their replies. A refusal is a reply, and the steps go on.
+/// Results of builds are numbered from 1 on, and are let go at the end.
 ///
-/// It is refused with `NoMemory` alone, where there is no place for all replies and results, before anything is done.
+/// Fails only with `NoMemory`, where there is no place for all replies and results, before anything is done.
 pub fn replay<R: Threads + Sync, D: Device, A: Allocator + Clone + Send + Sync>(
     rt: &R,
     alloc: A,

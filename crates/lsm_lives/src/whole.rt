@@ -17,7 +17,7 @@ use std::thread::Threads;
 
 /// Formats a new device, and leads lives on it: the theorem over crashes, without a premise.
 ///
-/// It is refused where the device or the format is, and with `NoMemory` before the first life where there is no place for all
+/// Fails where the device or the format does, and with `NoMemory` before the first life where there is no place for all
 /// replies.
 pub fn lives_from_format<R: Threads + Sync>(
     rt: &R,

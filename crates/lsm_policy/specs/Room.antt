@@ -18,11 +18,11 @@ taken_blocks levels = blocks_of (all_tables (places levels))
 abbrev pub left_of : ℕ → ℕ → Option ℕ
 left_of limit n = if nat_le n limit then Some (limit - n) else None
 
--- whether there is such a job, and it takes in so many blocks at most
+-- whether there is such a job, and it takes in at most `most` blocks
 abbrev pub takes_in_at_most : ℕ → Option Job → Bool
 takes_in_at_most most None = false
 takes_in_at_most most (Some job) = nat_le (blocks_of (inputs job)) most
 
--- whether a choice may be taken, and takes in so many blocks at most
+-- whether a choice may be taken, and takes in at most `most` blocks
 abbrev pub fits : Levels → List Job → ℕ → Choice → Bool
 fits levels jobs most choice = takes_in_at_most most (chosen levels jobs choice)

@@ -5,8 +5,8 @@
 //! blocks of the next level a block of their own. If room is scarce the oldest table goes, with as many neighbours as take in no more
 //! blocks than are free, so that deletes come to what they delete. It keeps nothing, so it goes on where it was after each opening.
 //!
-//! What a choice makes may take more blocks than it takes in, up to about twice as many, and then the job is refused with `NoSpace`.
-//! Which steps find room, and which puts leave enough of it, is said by `lsm_room`.
+//! The outputs of a choice may take more blocks than its inputs, up to about twice as many; then the job fails with `NoSpace`. Which
+//! steps find room, and which puts leave enough of it, is decided by `lsm_room`.
 //!
 //! ```
 //! let policy = Policy::new();

@@ -31,7 +31,7 @@ impl Neighbours {
 /// What a choice has to keep to.
 #[derive(Clone, Copy)]
 pub(crate) struct Bounds {
-    /// Whether several tables may go.
+    /// The most blocks that several may take in.
     pub joins: bool,
     /// The blocks that several take in at most.
     pub most_blocks: u64,
@@ -42,7 +42,7 @@ pub(crate) struct Bounds {
 }
 
 impl Bounds {
-    /// The blocks that so many runs may take in.
+    /// The most blocks that this number of runs may take in.
     pub fn room_of(self, runs: usize) -> u64 {
         if runs > 1 {
             self.room.min(self.most_blocks)
@@ -51,7 +51,7 @@ impl Bounds {
         }
     }
 
-    /// Whether so many tables that take in so many blocks are within.
+    /// Whether `count` tables that take in `blocks` blocks are within the bounds.
     fn allow(self, count: usize, blocks: u64) -> bool {
         blocks <= self.room && (count <= 1 || (self.joins && blocks <= self.most_blocks))
     }

@@ -12,23 +12,24 @@ use std::alloc::Allocator;
 /// A level's limit is at most this part of all blocks.
 const PART: u64 = 8;
 
-/// But it is so many blocks at least.
+/// But it is at least this number of blocks.
 const LEAST_LIMIT: u64 = 16;
 
 /// The numbers by which merges are chosen. [`Policy::new`] has good ones.
 #[derive(Clone, Copy, Debug)]
 pub struct Policy {
-    /// From so many runs on the runs of level 0 go down, as many at once as take in no more blocks than are free. More of them write
-    /// less. But from four runs on the job that comes next is the oldest alone, so for a caller that takes it too they are to be fewer.
+    /// From this number of runs on the runs of level 0 are merged down, as many at once as take in no more blocks than are free. A
+    /// higher number writes less, and leaves more places for a look-up or a scan to ask. From four runs on the store's `job_take` takes
+    /// the oldest alone, so a caller that uses it too sets fewer.
     pub runs: usize,
-    /// The limits of levels 1 to 3, in blocks. In a small data area a level's limit is an eighth of the blocks instead.
+    /// The limits of levels 1 to 3, in blocks. If an eighth of all blocks is less, that is the limit of a level.
     pub limits: [u64; 3],
-    /// Several neighbours, or several runs, take in so many blocks at most.
+    /// The most blocks that a merge of several neighbours, or several runs, takes in.
     pub most_blocks: u64,
-    /// Room is scarce with more tables than so many, and with less than half of the blocks free. With more of them there is no room
-    /// for more entries either.
+    /// Room is scarce with more tables than this, or with less than half of the blocks free. With more tables there is no room for
+    /// more entries either.
     pub most_tables: usize,
-    /// There is room for more while tables take at most so many blocks for each that is free.
+    /// There is room for more while tables take at most this number of blocks for each free one.
     pub taken_for_each_free: u32,
 }
 
@@ -46,8 +47,8 @@ impl Default for Policy {
 impl Policy {
     /// Three runs; limits of 224, 1,400 and 8,192 blocks; 1,024 blocks; 768 tables; two blocks for each that is free.
     ///
-    /// Runs and limits are below those by which jobs come next: so where all that is chosen is done, no merge comes next but of a
-    /// table that is mostly deletes.
+    /// Runs and limits are below those of the store's `job_take`: once all that is chosen is done, it takes no merge but of a table that is
+    /// mostly deletes.
     pub fn new() -> Policy
         ensures tables { result.most_tables ≡ 768 }
         ensures room { result.taken_for_each_free ≡ 2 }
@@ -61,16 +62,16 @@ impl Policy {
         }
     }
 
-    /// Whether room is scarce where so many blocks are free: less than half of them, or there are too many tables.
+    /// Whether room is scarce with `free_blocks` blocks free: less than half of them, or there are too many tables.
     pub fn is_scarce<A: Allocator>(&self, levels: &Levels<A>, free_blocks: u32) -> bool
         ensures { result ≡ (ltb free_blocks (taken_blocks levels.now) || ltb self.now.most_tables (table_count levels.now)) }
     {
         !takes_at_most(levels, u64::from(free_blocks)) || !has_at_most(levels, self.most_tables)
     }
 
-    /// Whether there is room for more entries where so many blocks are free: with two blocks taken for each that is free, at least a
-    /// third of all; and there are no more tables than [`most_tables`](Policy::most_tables). Refusing puts at this point keeps space for
-    /// deletes, which want a table first. No clause says that it is enough: `lsm_room` reckons more closely.
+    /// Whether there is room for more entries with `free_blocks` blocks free: at most two taken for each free one, so that a third is
+    /// free; and no more tables than [`most_tables`](Policy::most_tables). Refusing puts at this point keeps space for deletes, which
+    /// need a table first. No clause says that it is enough: `lsm_room` reckons more closely.
     pub fn has_room<A: Allocator>(&self, levels: &Levels<A>, free_blocks: u32) -> bool
         ensures { result ≡ (nat_le (taken_blocks levels.now) (self.now.taken_for_each_free * free_blocks) && nat_le (table_count levels.now) self.now.most_tables) }
     {
@@ -78,8 +79,8 @@ impl Policy {
         takes_at_most(levels, most_blocks) && has_at_most(levels, self.most_tables)
     }
 
-    /// The merge to choose next where so many blocks are free, and slots are held by these jobs: the first of these that there is,
-    /// that may be taken, and that takes in no more blocks than are free.
+    /// The merge to choose next, with `free_blocks` blocks free and the slots held by these jobs: the first of these that exists,
+    /// may be taken, and takes in no more blocks than are free.
     ///
     /// 1. From [`runs`](Policy::runs) on all runs of level 0; or the most of the oldest ones that take in no more blocks than are
     ///    free, nor, if they are several, than [`most_blocks`](Policy::most_blocks).
@@ -146,7 +147,7 @@ fn area_of<A: Allocator>(levels: &Levels<A>, room: u64) -> u64 {
     blocks
 }
 
-/// The most of the oldest runs of level 0 that may go down and find room, where there are so many runs at least.
+/// The most of the oldest runs of level 0 that may go down and find room, where there are at least `least` runs.
 fn runs_of<H: HeldJobs, A: Allocator>(
     levels: &Levels<A>,
     least: usize,

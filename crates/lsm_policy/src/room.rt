@@ -10,7 +10,7 @@ ghost use Rattle.lsm_policy.specs.Room.{blocks_of, fits, taken_blocks, left_of};
 use lsm_levels::{Choice, HeldJobs, Levels, Pick, PlacedTable, Run};
 use std::alloc::Allocator;
 
-/// What is left of so many blocks without those of tables; none where these have more.
+/// `limit` less the blocks of tables; `None` where these have more.
 fn without_tables<A: Allocator>(limit: u64, tables: &[PlacedTable<A>]) -> Option<u64>
     ensures { result ≡ left_of limit (blocks_of tables.now) }
 {
@@ -24,7 +24,7 @@ fn without_tables<A: Allocator>(limit: u64, tables: &[PlacedTable<A>]) -> Option
     Some(left)
 }
 
-/// What is left of so many blocks without those of runs; none where these have more.
+/// `limit` less the blocks of runs; `None` where these have more.
 fn without_runs<A: Allocator>(limit: u64, runs: &[Run<A>]) -> Option<u64>
     ensures { result ≡ left_of limit (blocks_of (all_tables runs.now)) }
 {
@@ -38,7 +38,7 @@ fn without_runs<A: Allocator>(limit: u64, runs: &[Run<A>]) -> Option<u64>
     Some(left)
 }
 
-/// Whether all tables of the levels take so many blocks at most.
+/// Whether all tables of the levels take at most `limit` blocks.
 pub(crate) fn takes_at_most<A: Allocator>(levels: &Levels<A>, limit: u64) -> bool
     ensures { result ≡ nat_le (taken_blocks levels.now) limit }
 {
@@ -62,7 +62,7 @@ fn without_number<A: Allocator>(limit: usize, runs: &[Run<A>]) -> Option<usize>
     Some(left)
 }
 
-/// Whether there are so many tables at most.
+/// Whether there are at most `limit` tables.
 pub(crate) fn has_at_most<A: Allocator>(levels: &Levels<A>, limit: usize) -> bool
     ensures { result ≡ nat_le (table_count levels.now) limit }
 {
@@ -72,7 +72,7 @@ pub(crate) fn has_at_most<A: Allocator>(levels: &Levels<A>, limit: usize) -> boo
     }
 }
 
-/// Whether a choice may be taken, and takes in so many blocks at most.
+/// Whether a choice may be taken, and takes in at most `most` blocks.
 pub fn fits<H: HeldJobs, A: Allocator>(
     levels: &Levels<A>,
     choice: Choice,
@@ -87,7 +87,7 @@ pub fn fits<H: HeldJobs, A: Allocator>(
     }
 }
 
-/// Whether the tables that a job takes in have so many blocks at most, so that its outputs find room in as many.
+/// Whether the tables that a job takes in have at most `blocks` blocks, so that its outputs find room in as many.
 fn takes_in_at_most<A: Allocator>(job: &Pick<'_, A>, blocks: u64) -> bool
     ensures { result ≡ nat_le (blocks_of (inputs (job_of job.now))) blocks }
 {

@@ -10,7 +10,7 @@ use Rattle.std.proofs.lemmas.List.{length-take, take_more}
 use Rattle.lsm_language.specs.declared.fault.Fault.{Fault}
 use Rattle.lsm_serve.specs.Reading.{HasNoNewline, TakesLine, most_kept}
 
--- So much of a line was read, and so much of it was kept.
+-- `begun` was read of a line, and its first bytes were kept, up to the most.
 pub record IsReading (before : Option (List ℕ)) (kept : List ℕ) (left : Option (List ℕ)) : Type 0 where
   pub begun : List ℕ
   pub whole : HasNoNewline begun
@@ -67,7 +67,7 @@ newline_taken xs n lt is = take_more xs n 0 lt ∙ ap (λ (b : ℕ). take n xs +
 pub reading-begins : (before : Option (List ℕ)) (kept : List ℕ) → kept ≡ [] → IsReading before kept before
 reading-begins before kept none = record { begun = []; whole = All-nil (λ (x : ℕ). x ≢ 10); cut = none ∙ sym (take-nil most_kept); reads = Consumes-nil before }
 
--- what is kept of a line, and of a part behind it
+-- what is kept of a line, and of a part after it
 cut_more : (kept longer begun part : List ℕ) → kept ≡ take most_kept begun → longer ≡ take most_kept (kept ++ part) → longer ≡ take most_kept (begun ++ part)
 cut_more kept longer begun part cut is = is ∙ ap (λ (l : List ℕ). take most_kept (l ++ part)) cut ∙ take-take_append most_kept begun part
 

@@ -30,7 +30,7 @@ pub data Outcome : Type 0 where
   lacks : Lack → Stat → Outcome
   wrongs : List ℕ → Outcome
 
--- an answer, behind the tag of its line
+-- an answer, after the tag of its line
 pub record Answered : Type 0 where
   pub tag : List ℕ
   pub outcome : Outcome
@@ -42,7 +42,7 @@ outcome_of (answer.Numbers stat) = counts stat
 outcome_of (answer.Halfway lack stat) = lacks lack stat
 outcome_of (answer.Usage wrong) = wrongs (wrong_text wrong)
 
--- a reply that is none of a build
+-- a reply that is not to a build
 abbrev pub IsTellable : Answer → Type 0
 IsTellable (answer.Told counted reply) = told_of reply ≡ Replied (reply_of reply)
 IsTellable other = Unit {0}
@@ -56,12 +56,12 @@ abbrev pub numbers_in : Result Stat Refusal → Outcome
 numbers_in (Ok stat) = counts stat
 numbers_in (Err refusal) = refuses refusal
 
--- the numbers behind what a store lacks, or why they are not told
+-- the numbers after what a store lacks, or why they are not told
 abbrev pub TellsLack : StoreView → Result Stat Refusal → Outcome → Type 0
 TellsLack store (Ok stat) outcome = (lack : Lack) × IsLacking store lack × (outcome ≡ lacks lack stat)
 TellsLack store (Err refusal) outcome = outcome ≡ refuses refusal
 
--- the numbers of a store that was compacted, behind what it lacks where that is not to the end
+-- the numbers of a store that was compacted, after what it lacks where that is not to the end
 abbrev pub TellsCompacted : Bool → StoreView → Outcome → Type 0
 TellsCompacted true store outcome = outcome ≡ numbers_in (stat_answer (machine_of store))
 TellsCompacted false store outcome = TellsLack store (stat_answer (machine_of store)) outcome

@@ -47,7 +47,7 @@ meaning_read (Some said) = meaning_said said
 abbrev pub meaning_in : List ℕ → Meaning
 meaning_in text = if bytes_eq text (codes "stat") then asks_numbers else if bytes_eq text (codes "compact") then asks_compaction else meaning_read (line_said text)
 
--- a line, which may not be too long, and has to be UTF-8 behind its tag
+-- a line, which may not be too long, and has to be UTF-8 after its tag
 abbrev pub meaning_of : List ℕ → Meaning
 meaning_of line = if nat_lt most_bytes (length line) then asks_nothing too_long else if is_utf8 (rest_of line) then meaning_in (rest_of line) else asks_nothing unreadable
 

@@ -28,7 +28,7 @@ MakesCall (Commit batch) before told after = WritesTold None batch before told a
 MakesCall (CommitIf guards batch) before told after = WritesTold (Some guards) batch before told after
 MakesCall call before told after = ServesTold call before told after
 
--- What was begun was finished, which is upkeep; then a store was kept up, and its tables were taken down, behind a flush that waited. All
+-- What was begun was finished, which is upkeep; then a store was kept up, and its tables were taken down, after a flush that waited. All
 -- that is upkeep.
 pub record CompactsWhole (old new : StoreView) : Type 0 where
   pub begun : StoreView

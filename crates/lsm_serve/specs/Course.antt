@@ -18,7 +18,7 @@ AreUpkeep (step ∷ steps) (reply ∷ replies) = IsUpkeepStep step reply × AreU
 AreUpkeep [] (reply ∷ replies) = ⊥
 AreUpkeep (step ∷ steps) [] = ⊥
 
--- what is told of the reply to a call: of a commit that the log had no room for, that there is none
+-- what is told of the reply to a call: of a commit that the log had no room for, NoSpace
 abbrev pub told_as : Call → Reply → Reply
 told_as (Commit batch) reply = without_log_full (as_told reply)
 told_as (CommitIf guards batch) reply = without_log_full (as_told reply)

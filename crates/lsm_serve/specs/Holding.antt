@@ -8,11 +8,11 @@ use Rattle.lsm_store.specs.Backing.{StoreView}
 use Rattle.lsm_serve.specs.Answering.{Answered, AnswersLine, answer_text}
 use Rattle.lsm_serve.specs.Serving.{AreServed}
 
--- what is in an output, with what is held for it behind that, stays the same
+-- what is in an output, with what is held for it after that, stays the same
 abbrev pub KeepsHeld : Option (List ℕ) → List ℕ → Option (List ℕ) → List ℕ → Type 0
 KeepsHeld output held output_after held_after = Keeps (append_known output held) (append_known output_after held_after)
 
--- Lines of an input were answered, in an output and in what is held for it behind that. Nothing is held where no line was answered.
+-- Lines of an input were answered, in an output and in what is held for it after that. Nothing is held where no line was answered.
 pub record AreHeld (input : Option (List ℕ)) (result : Result (Unit {0}) Fault) (before after : StoreView) (output output_after : Option (List ℕ)) (held : List ℕ) : Type 0 where
   pub served : AreServed input result before after output (append_known output_after held)
   pub some : (held ≡ []) ⊎ (1 ≤ length served.lines)

@@ -17,7 +17,7 @@ part_of expected.Number = codes "the number is \""
 part_of expected.Snapshot = codes "the snapshot is \""
 part_of other = codes "the line is \""
 
--- and behind it: what was expected there
+-- and after it: what was expected there
 abbrev pub form_of : Expected → List ℕ
 form_of expected.Text = codes "\": expected UTF-8"
 form_of expected.Name = codes "\": expected commit, if, sync, syncto, get, scan, snapshot, release, room, stat, compact"

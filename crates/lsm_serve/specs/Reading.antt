@@ -24,8 +24,8 @@ Takes before line Part kept after = (part : List ℕ) × HasNoNewline part × (k
 Takes before line Nothing kept after = (kept ≡ line) × Keeps before after
 Takes before line End kept after = (kept ≡ line) × IfSome before (λ text. text ≡ []) × Keeps before after
 
--- A line was found, of which so much was kept: it was the first of what the input had left, as far as that is known, with the newline
--- that ends it. Or nothing was left.
+-- A line was found, of which the first bytes were kept: it was the first of what the input had left, as far as that is known, with
+-- the newline that ends it. Or nothing was left.
 abbrev pub TakesLine : Option (List ℕ) → Bool → List ℕ → Option (List ℕ) → Type 0
 TakesLine before true kept after = (line : List ℕ) × HasNoNewline line × (kept ≡ take most_kept line) × Consumes before after (line ++ 10 ∷ [])
 TakesLine before false kept after = IfSome before (λ text. text ≡ [])

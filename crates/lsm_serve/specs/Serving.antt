@@ -54,8 +54,8 @@ HaveCome (Err fault) input lines = AreFirst input lines
 abbrev pub most_lines : ℕ
 most_lines = 18446744073709551614
 
--- Why only so many lines were answered: the next one can't be read, or no newline ends it; the answer to the last can't be written; memory for the next one or
--- for the text of the last answer was refused; or they are the most.
+-- Why no more lines were answered: the next one can't be read, or no newline ends it; the answer to the last can't be written; memory for
+-- the next one or for the text of the last answer was refused; or they are the most.
 abbrev pub EndsEarly : Reason → List (List ℕ) → Type 0
 EndsEarly unread lines = Unit {0}
 EndsEarly unwritten lines = 1 ≤ length lines

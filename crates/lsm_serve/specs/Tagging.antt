@@ -19,7 +19,7 @@ is_space b = b == 32
 abbrev pub first_space : List ℕ → Option ℕ
 first_space line = position_from is_space 0 line
 
--- how many bytes a tag has with the space behind it, which stands there: what is before that has to be the word of one
+-- how many bytes a tag has with the space after it, which is there: what is before that has to be the word of one
 abbrev pub size_at : List ℕ → Option ℕ → ℕ
 size_at line None = 0
 size_at line (Some place) = if is_tag_word (take place line) then place + 1 else 0
@@ -27,7 +27,7 @@ size_at line (Some place) = if is_tag_word (take place line) then place + 1 else
 abbrev pub tag_size : List ℕ → ℕ
 tag_size line = size_at line (first_space line)
 
--- the tag of a line with the space behind it, or nothing where there is none; and what else stands in the line
+-- the tag of a line with the space after it, empty where there is none; and the rest of the line
 abbrev pub tag_in : List ℕ → List ℕ
 tag_in line = take (tag_size line) line
 

@@ -31,8 +31,7 @@ pub enum Answer {
     Usage(Wrong),
 }
 
-/// The text of an answer to the line of a number, behind the tag of that line: a line of its own. It is refused for want of memory
-/// alone.
+/// The text of the answer to line `number`, after the tag of that line: a line of its own. Fails only with `NoMemory`.
 pub(crate) fn text_of(
     alloc: Global,
     number: u64,

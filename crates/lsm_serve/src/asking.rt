@@ -17,7 +17,7 @@ use std::alloc::{AllocError, Global};
 pub enum Wrong {
     /// It has too many bytes.
     TooLong,
-    /// It is no line of a script, and none that is served besides.
+    /// It is no line of a script, nor one that is served besides.
     Unreadable(Mistake),
     /// It is a line of a script, but no call that is served.
     NoCall,
@@ -38,7 +38,7 @@ pub enum Asked {
     Nothing(Wrong),
 }
 
-/// Reads what a line asks for, behind its tag.
+/// Reads what a line asks for, after its tag.
 pub(crate) fn read_asked(alloc: Global, line: &[u8]) -> Result<Asked, AllocError>
     ensures asks { IfOk result (λ asked. asked_by asked ≡ meaning_of line.now) }
     ensures askable { IfOk result IsAskable }

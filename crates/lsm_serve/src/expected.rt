@@ -10,7 +10,7 @@ pub enum Expected {
     Text,
     /// A first word that is served.
     Name,
-    /// No word behind the first.
+    /// No word after the first.
     Alone,
     /// The words of a `commit`.
     Commit,
@@ -42,7 +42,7 @@ pub enum Expected {
     Snapshot,
 }
 
-/// What is said behind what stands for bytes.
+/// What a message says after what stands for bytes.
 const BYTES: &str = "\": expected hex, two digits a byte, or empty for no bytes";
 
 impl Expected {
@@ -64,7 +64,7 @@ impl Expected {
         }
     }
 
-    /// What is said behind that: what was expected there.
+    /// What the message says after it: what was expected there.
     pub fn form(self) -> &'static str
         ensures { result.now ≡ form_of self }
     {

@@ -1,4 +1,4 @@
-//! Where the first mistake is in a line that can't be read. It is looked for behind the words that could be read.
+//! Where the first mistake is in a line that can't be read. It is searched after the words that could be read.
 
 use crate::expected::Expected;
 use lsm_language::after;
@@ -54,7 +54,7 @@ fn in_operation(word: &str) -> Option<(Expected, &str)> {
     }
 }
 
-// Guards, up to the word `then`, and the operations behind it.
+// Guards, up to the word `then`, and the operations after it.
 fn in_guarded(words: &str) -> Option<(Expected, &str)> {
     let mut is_behind = false;
     for word in words.split(' ') {

@@ -13,7 +13,7 @@ use std::io::{BufRead, ErrorKind};
 /// The most bytes that a line may have.
 pub const MOST_BYTES: usize = 300_000;
 
-/// So many bytes of a line are kept at most, by which it is seen that it is too long.
+/// At most this number of bytes of a line is kept, which tells whether it is too long.
 const MOST_KEPT: usize = 300_001;
 
 /// What is said of an input that ends within a line.
@@ -22,7 +22,7 @@ const CUT: &str = "it ends within a line, which was not done";
 /// What one look at an input took.
 #[derive(Clone, Copy)]
 pub enum Taken {
-    /// The rest of a line, and its newline. It tells whether another whole line was read behind it.
+    /// The rest of a line, and its newline. It tells whether another whole line was read after it.
     Line(bool),
     /// A part of a line, of which more may come.
     Part,
@@ -33,7 +33,7 @@ pub enum Taken {
 }
 
 /// Reads the next line of an input in the place of the one before it, without its newline. Of a line that is too long one byte more
-/// than the most is kept, and the rest is passed over. If there is a line it tells whether another whole one was read behind it, so
+/// than the most is kept, and the rest is passed over. If there is a line it tells whether another whole one was read after it, so
 /// that the next call doesn't wait.
 ///
 /// What no newline ends is no line: an input that ends so can't be read to its end. Nor can one of which 2^64 - 1 looks end no line.
@@ -55,7 +55,7 @@ pub(crate) fn next_line<I: BufRead>(
     Err(Fault::Input(ErrorKind::Interrupted.into()))
 }
 
-// There is no further line. What was begun of one is none: whoever wrote it may have been stopped within it.
+// There is no further line. An unfinished one doesn't count: its writer may have been stopped within it.
 fn ended(begun: &[u8]) -> Result<Option<bool>, Fault>
     ensures none { IfOk result (λ found. (found ≡ None) × (length begun.now ≡ 0)) }
     ensures fails { IfErr result (λ e. IsInputFault (reason_of e)) }
@@ -66,7 +66,7 @@ fn ended(begun: &[u8]) -> Result<Option<bool>, Fault>
     Err(Fault::Input(io::Error::new(ErrorKind::UnexpectedEof, CUT)))
 }
 
-// Takes what was read of a line, and keeps it behind what is kept of it.
+// Takes what was read of a line, and appends it to what is kept of it.
 fn take_piece<I: BufRead>(input: &mut I, line: &mut Vec<u8>) -> Result<Taken, Fault>
     requires { length line.old.items ≤ most_kept }
     ensures takes { IfOk result (λ taken. Takes (I.remaining input.old) line.old.items taken line.new.items (I.remaining input.new)) }

@@ -20,12 +20,12 @@ use std::alloc::Global;
 use std::io;
 use std::io::{BufRead, Write};
 
-/// From so many bytes on answers are written, though another line was read already.
+/// From this number of bytes on answers are written, though another line was read already.
 const MOST_HELD: usize = 65_536;
 
-/// Answers the lines of an input, each before the next one is read, and syncs the store at the end, unless it is stopped. What is refused
-/// is an answer, and so is what is wrong with a line. Answers are written at the latest where no other whole line was read behind
-/// theirs, or where they have 64 KiB, so that none is held while a read waits.
+/// Answers the lines of an input, each before the next one is read, and syncs the store at the end, unless it is stopped. A refusal is an
+/// answer, and so is a mistake in a line. Answers are written at the latest where no other whole line was read after theirs, or where
+/// they have 64 KiB, so that none is held while a read waits.
 ///
 /// Only what a newline ends is done. An input that ends within a line counts as one that can't be read.
 ///

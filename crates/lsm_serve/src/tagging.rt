@@ -8,7 +8,7 @@ ghost use Rattle.lsm_serve.specs.Tagging.{are_digits, first_space, is_tag_word, 
 /// The most digits of a tag.
 const MOST_DIGITS: usize = 20;
 
-/// The tag of a line with the space behind it, of no bytes where the line has none, and what else stands in the line.
+/// The tag of a line with the space after it, empty where the line has none, and the rest of the line.
 pub(crate) fn part_line(line: &[u8]) -> (&[u8], &[u8])
     ensures tag { result.0.now ≡ tag_in line.now }
     ensures rest { result.1.now ≡ rest_of line.now }
@@ -16,7 +16,7 @@ pub(crate) fn part_line(line: &[u8]) -> (&[u8], &[u8])
     line.split_at(tag_size(line))
 }
 
-// How many bytes the tag of a line has with the space behind it, 0 where it has none.
+// How many bytes the tag of a line has with the space after it, 0 where it has none.
 fn tag_size(line: &[u8]) -> usize
     ensures size { result ≡ tag_size line.now }
     ensures within { result ≤ length line.now }

@@ -17,7 +17,7 @@ told_more log (x ∷ cs) c t seen e = (t.0, t.1, told_more log cs c t.2 seen e)
 pub all_by : (n m : ℕ) (xs ys : List Known) → n ≡ m → xs ≡ ys → AreAll n xs → AreAll m ys
 all_by n m xs ys count items all = subst (λ (k : ℕ). AreAll k ys) count (subst (AreAll n) items all)
 
--- what holds of the value behind the lock when all clients are retired holds of the parts that it gives
+-- what holds of the value that the lock guards when all clients are retired holds of the parts that it gives
 pub ended : (b : Begin) (clients left : List Known) (session : SessionView) (store : StoreView) (trail : TrailView)
     → left ≡ [] → 0 < b.clients → AreAll b.clients clients
     → (AgreesWith session.log left → AgreesWith session.log clients)

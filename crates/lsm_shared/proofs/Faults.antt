@@ -82,7 +82,7 @@ lost_faultless (Given job) short = absurd short
 lost_faultless (Handed input) short = absurd short
 lost_faultless Unread short = absurd short
 
--- so a step that is no entry for want of memory is none for the device either
+-- so a step that is no entry for want of memory is no use of the device either
 pub device_kept : (before : Medium) (replies : List Reply) (old : StoreView) (step : Step) (reply : Reply) (new : StoreView) → IsDeviceAfter before replies old.device → ServesStep old step reply new → IsLost reply → IsDeviceAfter before replies new.device
 device_kept before replies old step reply new was serves short =
     let one = served_device old step reply new serves in

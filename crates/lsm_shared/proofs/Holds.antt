@@ -370,7 +370,7 @@ seen_then id old new c d xs e = subst (HasSeen id new) (sym e.client) record {
   all = refl;
 }
 
--- entries of a client that was shown the history first are entries behind what it had seen before
+-- entries of a client that was shown the history first are entries after what it had seen before
 pub shown_before : (id : SessionId) (old new : SessionView) (c d f : Known) (xs : List Event) → Finds id old c → d ≡ known id.begin c.number old.log c.mine → Enters id old d xs new f → Enters id old c xs new f
 shown_before id old new c d f xs finds is e =
     let number : d.number ≡ c.number = ap (λ (k : Known). k.number) is in

@@ -20,7 +20,7 @@ use Rattle.lsm_shared.specs.Sessions.{SessionView, HasSeen}
 use Rattle.lsm_shared.specs.Turns.{WasLent}
 use Rattle.lsm_machine.proofs.Membership.{none_in}
 
--- what is in a list is the first of it, or behind
+-- what is in a list is the first of it, or after it
 first_or : {X : Type 0} (y : X) (ys : List X) (x : X) → Contains (y ∷ ys) x → (y ≡ x) ⊎ Contains ys x
 first_or y ys x found = ⊎_elim
     (λ (here : Contains (y ∷ []) x). ⊎_elim (λ (none : Contains [] x). absurd (none_in x none)) (λ (is : y ≡ x). inl is) (Contains-push_cases [] y x here))

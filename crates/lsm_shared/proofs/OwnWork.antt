@@ -161,6 +161,6 @@ abbrev refusal_in : Reply → Refusal
 refusal_in (Refused r) = r
 refusal_in r = NoMemory
 
--- a refusal that is none for want of memory
+-- a refusal that is not for want of memory
 pub other_refusal : (e : Refusal) → e ≢ NoMemory → Refused e ≢ Refused NoMemory
 other_refusal e other same = other (ap refusal_in same)

@@ -69,7 +69,7 @@ module _ (id : SessionId) (old new : SessionView) (c d : Known) (entries : List 
   machine_left : machine_of new.store ≡ machine_after d.begin d.seen
   machine_left = e.machine ∙ (λ i. machine_after (sym begin_is i) (sym seen_is i))
 
-  -- why a piece of work is no entry behind it
+  -- why a piece of work is no entry after it
   denied_then : (left : Work) (r : Refusal) → DeniesWork id.begin new.log left r → DeniesWork d.begin d.seen left r
   denied_then left r denied = subst (λ (k : Known). DeniesWork k.begin k.seen left r) (sym e.client) denied
 
@@ -85,7 +85,7 @@ sees id old new c d e = record {
   room = (adds id old new c d [] e).room;
 }
 
--- a client that is denied a call has seen the history behind which it is
+-- a client that is denied a call has seen the history after which it is denied
 denied_call : (id : SessionId) (old new : SessionView) (c d : Known) (call : Call) (r : Refusal) → Enters id old c [] new d → Denies id.begin old.log call r → IsNoCall c call r d
 denied_call id old new c d call r e why =
     (sees id old new c d e, subst (λ (k : Known). Denies k.begin k.seen call r) (sym e.client) (subst (λ (l : List Event). Denies id.begin l call r) (sym (append-nil old.log) ∙ sym e.log) why))
@@ -222,7 +222,7 @@ no_piece id old new c d work r b = record {
   denied = denied_then id old new c d [] b.enters work r b.denied;
 }
 
--- where a hold made no entry, the client has seen the history behind which it found the machine
+-- where a hold made no entry, the client has seen the history after which it found the machine
 machine_seen : (id : SessionId) (old new : SessionView) (c d : Known) → Enters id old c [] new d → machine_of old.store ≡ machine_after d.begin d.seen
 machine_seen id old new c d e =
     let log : old.log ≡ d.seen = sym (append-nil old.log) ∙ sym e.log ∙ sym (seen_is id old new c d [] e) in

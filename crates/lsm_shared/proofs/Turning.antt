@@ -29,7 +29,7 @@ use Rattle.lsm_shared.specs.declared.turn.Turn.TheVariants as turn
 use Rattle.lsm_shared.proofs.Holds.{enters_join, served_join, entered_none, shown_before}
 use Rattle.lsm_machine.proofs.NextPieces.{none_not_full}
 
--- ---- the pieces at one place, and behind it
+-- ---- the pieces at one place, and after it
 
 module _ (m : Machine) where
   idle_by : (o : Option Work) → unless_put_off m o None ≡ None → (later : List Work) (next : Option Work) → (with_piece m o later ≡ with_piece m o [] ++ later) × (unless_put_off m o next ≡ next)
@@ -40,7 +40,7 @@ module _ (m : Machine) where
       by true none = (refl, refl)
       by false none = absurd (cc none)
 
-  -- where nothing is next at a place, a turn goes on behind it
+  -- where nothing is next at a place, a turn goes on after it
   idle_first : (place : ℕ) (rest : List ℕ) → next_among m (place ∷ []) ≡ None → (pieces_among m (place ∷ rest) ≡ pieces_among m (place ∷ []) ++ pieces_among m rest) × (next_among m (place ∷ rest) ≡ next_among m rest)
   idle_first place rest none = idle_by (piece_at m place) none (pieces_among m rest) (next_among m rest)
 
@@ -351,7 +351,7 @@ module _ (id : SessionId) (old new : SessionView) (c d : Known) (place : ℕ) (r
         denied = s.denied;
       }
 
--- ---- behind a client that was shown the history
+-- ---- after a client that was shown the history
 
 module _ (id : SessionId) (old new : SessionView) (c me d : Known) (finds : Finds id old c) (shown : me ≡ known id.begin c.number old.log c.mine) (places : List ℕ) where
   shown_takes : {A : Type 0} (taken : Turn A) → TakesAmong id old me places taken new d → TakesAmong id old c places taken new d

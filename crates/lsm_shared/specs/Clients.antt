@@ -32,16 +32,16 @@ pub record MakesCall (c : Known) (call : Call) (answer : Told) (d : Known) : Typ
   pub machine : Machine
   pub adds : Adds c others (called c.number call reply machine ∷ []) d
 
--- Why a call is no entry behind a history: the trail is full; or it has a place, and the call is to release the base, or
--- there was no memory for a call that takes some, and that the state doesn't refuse: a look-up takes some where the state
--- has a value, if the device backs it.
+-- Why a call is no entry after a history: the trail is full; or it has a place, and the call is to release the base, or there
+-- was no memory for a call that takes some, and that the state doesn't refuse: a look-up takes some where the state has a
+-- value, if the device backs it.
 abbrev pub Denies : Begin → List Event → Call → Refusal → Type 0
 Denies b log call TrailFull = length log ≡ b.limit
 Denies b log call NotYours = (length log < b.limit) × (call ≡ Release (base_of b))
 Denies b log call NoMemory = (length log < b.limit) × Admits (state_after b log) call (Refused NoMemory) × (IsBacked b.store → Allows (state_after b log) call (Refused NoMemory))
 Denies b log call other = ⊥
 
--- A call that is no entry, and the client has seen the history behind which it is none.
+-- A call that is no entry, and the client has seen the history after which it is none.
 abbrev pub IsNoCall : Known → Call → Refusal → Known → Type 0
 IsNoCall c call e d = Sees c d × Denies d.begin d.seen call e
 
@@ -65,6 +65,6 @@ abbrev pub has_client : ℕ → List Known → Bool
 has_client number [] = false
 has_client number (c ∷ cs) = if c.number == number then true else has_client number cs
 
--- there are so many clients, and each number below that is one's
+-- there are `count` clients, and each number below that is one's
 abbrev pub AreAll : ℕ → List Known → Type 0
 AreAll count clients = (length clients ≡ count) × ((number : ℕ) → number < count → has_client number clients ≡ true)

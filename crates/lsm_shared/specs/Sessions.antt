@@ -1,4 +1,4 @@
--- Sessions: the value behind the lock, what a hold of the lock does, how a session begins and how it ends.
+-- Sessions: the value that the lock guards, what a hold of the lock does, how a session begins and how it ends.
 use Rattle.std.specs.Prelude.{◌≡◌, ℕ, ◌<◌, ◌≤◌, nat_lt, ◌||◌, ◌==◌, Bool, is_some, IsNone, if◌then◌else◌, List, [], ◌∷◌, ◌++◌, length, Option, Some}
 use mathlib.Core.List.{IsPrefix}
 use Rattle.atomic_table.specs.declared.shared.Seat.{Seat}
@@ -49,15 +49,15 @@ pub record IsPinned (b : Begin) (base : ℕ) (store : StoreView) : Type 0 where
   pub backed : IsBacked b.store → IsBacked store
   pub unused : store.device ≡ b.store.device
 
--- ---- the value behind the lock
+-- ---- the value that the lock guards
 
--- What contracts see of the value behind the lock: the store, and the history.
+-- What contracts see of the value that the lock guards: the store, and the history.
 pub record SessionView : Type 0 where
   pub store : StoreView
   pub log : List Event
 
 -- What holds of the history that it keeps: the trail is one legal history from the begin, the lock's pass has just that history,
--- so that the words tell its numbers, and so many of its entries are calls, and builds that were lent an input.
+-- so that the words tell its numbers, `calls` of its entries are calls, and `builds` are builds that were lent an input.
 pub record IsHistory (id : SessionId) (trail : TrailView) (keeper : Seat Event View) (calls builds : ℕ) : Type 0 where
   pub pass : IsKeeperPass id trail.log keeper
   pub dealt : (keeper_of keeper).dealt ≡ id.begin.clients

@@ -35,7 +35,7 @@ tells_no_space other = false
 
 -- ---- the pieces of a turn
 
--- what a slot waits for, and behind an install that is put off what comes next
+-- what a slot waits for, and after an install that is put off what comes next
 abbrev pub with_piece : Machine → Option Work → List Work → List Work
 with_piece m None later = later
 with_piece m (Some work) later = work ∷ (if is_put_off m work then later else [])
@@ -63,13 +63,13 @@ IsTurn m places number (turn.Did reply) entries =
 IsTurn m places number (turn.Merge job result input) entries =
     (passed : List Event) × (behind : Machine) × (entries ≡ passed ++ lent_to number job (arc_value input) result behind ∷ []) × AreOfTurn m places (Some (Ask job)) entries
 
--- An idle client has seen a history behind which nothing is left for it to do.
+-- An idle client has seen a history after which nothing is left for it to do.
 abbrev pub MayRest : {A : Type 0} → Turn A → Known → Type 0
 MayRest turn.Idle d = next_piece (machine_after d.begin d.seen) d.number ≡ None
 MayRest (turn.Did reply) d = Unit {0}
 MayRest (turn.Merge job result input) d = Unit {0}
 
--- A client took a turn, from its own place among the slots on, behind all that it had seen and what others did since.
+-- A client took a turn, from its own place among the slots on, after all that it had seen and what others did since.
 pub record TakesTurn {A : Type 0} (c : Known) (turn : Turn A) (d : Known) : Type 0 where
   pub others : List Event
   pub entries : List Event
@@ -79,7 +79,7 @@ pub record TakesTurn {A : Type 0} (c : Known) (turn : Turn A) (d : Known) : Type
 
 -- ---- a turn that ends before its last piece
 
--- Why a piece of work is no entry behind a history: the trail is full; or it has a place, and there was no memory for a piece that
+-- Why a piece of work is no entry after a history: the trail is full; or it has a place, and there was no memory for a piece that
 -- takes some and that nothing refuses.
 abbrev pub DeniesWork : Begin → List Event → Work → Refusal → Type 0
 DeniesWork b log work TrailFull = length log ≡ b.limit
@@ -102,14 +102,14 @@ pub record IsNoTurn (c : Known) (e : Refusal) (d : Known) : Type 0 where
 
 -- ---- turns over the places that are due
 
--- An idle client has seen a history behind which nothing is left for it to do at the places that are due: no job that is held, but
+-- An idle client has seen a history after which nothing is left for it to do at the places that are due: no job that is held, but
 -- for installs that are put off, and no flush for which a slot is free.
 abbrev pub MayPause : {A : Type 0} → Turn A → Known → Type 0
 MayPause turn.Idle d = next_due (machine_after d.begin d.seen) d.number ≡ None
 MayPause (turn.Did reply) d = Unit {0}
 MayPause (turn.Merge job result input) d = Unit {0}
 
--- A client took a turn over the places that are due behind all that it had seen and what others did since.
+-- A client took a turn over the places that are due after all that it had seen and what others did since.
 pub record TakesDue {A : Type 0} (c : Known) (turn : Turn A) (d : Known) : Type 0 where
   pub others : List Event
   pub entries : List Event
@@ -128,7 +128,7 @@ pub record IsNotDue (c : Known) (e : Refusal) (d : Known) : Type 0 where
 
 -- ---- one piece
 
--- A client did one piece of work, which the store does by itself, behind all that it had seen and what others did since, and was
+-- A client did one piece of work, which the store does by itself, after all that it had seen and what others did since, and was
 -- told its reply.
 pub record MakesPiece (c : Known) (work : Work) (answer : Told) (d : Known) : Type 0 where
   pub reply : Reply
@@ -137,7 +137,7 @@ pub record MakesPiece (c : Known) (work : Work) (answer : Told) (d : Known) : Ty
   pub behind : Machine
   pub adds : Adds c others (worked c.number work reply behind ∷ []) d
 
--- It could not: the piece is no entry behind the history that the client has seen then.
+-- It could not: the piece is no entry after the history that the client has seen then.
 pub record IsNoPiece (c : Known) (work : Work) (e : Refusal) (d : Known) : Type 0 where
   pub others : List Event
   pub adds : Adds c others [] d
@@ -152,16 +152,16 @@ abbrev pub TakesOf : Known → Choice → Option Told → Known → Type 0
 TakesOf c choice None d = Sees c d × (work_decided (machine_after d.begin d.seen) (Take (Some choice)) ≡ Given None)
 TakesOf c choice (Some answer) d = MakesPiece c (Take (Some choice)) answer d
 
--- It could not: there is one, and its taking is no entry behind the history that the client has seen then.
+-- It could not: there is one, and its taking is no entry after the history that the client has seen then.
 pub record IsNotTaken (c : Known) (choice : Choice) (e : Refusal) (d : Known) : Type 0 where
   pub piece : IsNoPiece c (Take (Some choice)) e d
   pub gives : Gives (machine_after d.begin d.seen) (Take (Some choice))
 
--- a choice whose job may be taken beside the jobs that are held
+-- a choice whose job may be taken along with the jobs that are held
 abbrev pub MayChoose : Machine → Choice → Type 0
 MayChoose m choice = is_some (chosen m.work.levels (held_jobs m.work.jobs.slots) choice) ≡ true
 
--- A client took the job of some choice that could be taken behind all that it had seen and what others did since, where no flush was
+-- A client took the job of some choice that could be taken after all that it had seen and what others did since, where no flush was
 -- to be taken first and no merge was held.
 pub record TakesSome (c : Known) (answer : Told) (d : Known) : Type 0 where
   pub choice : Choice
@@ -207,7 +207,7 @@ pub record Brings (c : Known) (job result : ℕ) (made : MergeResult) (answer : 
   pub adds : Adds c others entries d
   pub brought : IsBrought c.number job result made reply entries
 
--- Behind these entries this piece is left of bringing a result: the accept, or behind one that found no room the giving up of
+-- After these entries this piece is left of bringing a result: the accept, or after one that found no room the giving up of
 -- the job.
 abbrev pub IsLeftOfBringing : ℕ → ℕ → ℕ → MergeResult → List Event → Work → Type 0
 IsLeftOfBringing number job result made [] left = left ≡ Accept job (Some made)

@@ -21,7 +21,7 @@ pub record MakesNoCall (old new : Known) : Type 0 where
   pub number : new.number ≡ old.number
   pub calls : calls_in new.mine ≡ calls_in old.mine
 
--- A client has seen a history behind which nothing is left for it to do: no job that is held can go on, but for installs that are put
+-- A client has seen a history after which nothing is left for it to do: no job that is held can go on, but for installs that are put
 -- off, and no flush waits for which a slot is free.
 pub record Rests (me : Known) : Type 0 where
   pub seen : List Event
@@ -35,11 +35,11 @@ pub record IsMerged (input : MergeInput) (made : MergeResult) : Type 0 where
   pub input_of : made.input ≡ input
   pub tables : IsTables (kept_of input) made.images
 
--- a result may be built in so many parts
+-- a result may be built in this number of parts
 abbrev pub MayPart : ℕ → Type 0
 MayPart parts = (1 ≤ parts) × (parts ≤ 8)
 
--- A client merged an input in so many parts, and brought the result.
+-- A client merged an input in `parts` parts, and brought the result.
 pub record Delivers (parts job result : ℕ) (input : MergeInput) (old new : Known) : Type 0 where
   pub within : MayPart parts
   pub made : MergeResult
@@ -47,7 +47,7 @@ pub record Delivers (parts job result : ℕ) (input : MergeInput) (old new : Kno
   pub told : Told
   pub brings : Brings old job result made told new
 
--- why nothing is built in so many parts: there are to be none or more than 8, or memory is short
+-- why nothing is built in `parts` parts: these are none or more than 8, or memory is short
 pub record IsUnbuilt (parts : ℕ) (e : Refusal) : Type 0 where
   pub limit : (parts < 1) ⊎ (8 < parts) → e ≡ BadLimit
   pub memory : 1 ≤ parts → parts ≤ 8 → e ≡ NoMemory
@@ -94,17 +94,17 @@ pub data TakesPart (parts : ℕ) (e : Refusal) (old new : Known) : Type 0 where
 
 -- ---- turns, one after another
 
--- a client took so many turns, and was busy in each
+-- a client took n turns, and was busy in each
 abbrev pub TakesTurns : ℕ → ℕ → Known → Known → Type 0
 TakesTurns parts zero old new = new ≡ old
 TakesTurns parts (suc n) old new = (mid : Known) × TakesTurns parts n old mid × TakesWhole parts true mid new
 
--- It was idle in one of at most so many turns, with which it ended; or it was busy in all of them.
+-- It was idle in one of at most n turns, with which it ended; or it was busy in all of them.
 abbrev pub TakesUpTo : ℕ → ℕ → Bool → Known → Known → Type 0
 TakesUpTo turns parts true old new = (n : ℕ) × (n < turns) × (mid : Known) × TakesTurns parts n old mid × TakesWhole parts false mid new
 TakesUpTo turns parts false old new = TakesTurns parts turns old new
 
--- One of so many turns was refused.
+-- One of `turns` turns was refused.
 pub record StopsWithin (turns parts : ℕ) (e : Refusal) (old new : Known) : Type 0 where
   pub before : ℕ
   pub within : before < turns

@@ -100,7 +100,7 @@ impl<A: Allocator, B: SessionName> Client<A, B> {
 impl<A: Allocator + Clone, B: SessionName> Client<A, B> {
     /// Makes a call of the store, in one hold of the lock. What the store refuses is a reply too.
     ///
-    /// It is refused with `TrailFull` where the trail has no place for another entry, and else with `NotYours` where it is
+    /// Fails with `TrailFull` where the trail has no place for another entry, and else with `NotYours` where it is
     /// to release the session's base, both before anything is done; and with `NoMemory`, where the state of the store is as
     /// it was. A call that is refused is not in the trail, and the client has then seen the history up to there.
     pub fn call<D: Device, R: Wait>(
@@ -123,7 +123,7 @@ impl<A: Allocator + Clone, B: SessionName> Client<A, B> {
     ///
     /// Nothing is merged here: whoever is handed an input builds the result with no lock in hand, and brings it.
     ///
-    /// It is refused with `TrailFull` where the trail has no place for the next entry, and with `NoMemory`. What was entered
+    /// Fails with `TrailFull` where the trail has no place for the next entry, and with `NoMemory`. What was entered
     /// before stands.
     pub fn turn<D: Device, R: Wait>(
         &mut self,
@@ -142,7 +142,7 @@ impl<A: Allocator + Clone, B: SessionName> Client<A, B> {
     /// those that hold merges, from that of the client's number on. So a flush waits for one piece of a merge at most, or for its
     /// build, and a client that takes such turns chooses itself which merges begin ([`take_next`](Client::take_next)).
     ///
-    /// It is refused as a turn is, and what was entered before stands.
+    /// Fails as a turn does, and what was entered before stands.
     pub fn turn_due<D: Device, R: Wait>(
         &mut self,
         rt: &R,
@@ -155,12 +155,12 @@ impl<A: Allocator + Clone, B: SessionName> Client<A, B> {
         shared.hold(rt).piece_due(&shared.counters, self)
     }
 
-    /// Takes the job of a choice, in one hold of the lock: neighbouring tables of a level from 1 to 3, or so many of the oldest
+    /// Takes the job of a choice, in one hold of the lock: neighbouring tables of a level from 1 to 3, or a number of the oldest
     /// runs of level 0, with the tables of the next level that meet their hull; or neighbouring tables of a level from 1 to 4, which
-    /// are written anew in their own place. None where the store has no such job to give, which is no entry. What the store refuses
-    /// is a reply too. Turns of whatever clients do the rest of the job.
+    /// are written anew in their own place. `None` where the store has no such job to give, which is no entry. What the store
+    /// refuses is a reply too. Turns of whatever clients do the rest of the job.
     ///
-    /// It is refused with `TrailFull` where there is something to enter and the trail has no place for it, and with `NoMemory`.
+    /// Fails with `TrailFull` where there is something to enter and the trail has no place for it, and with `NoMemory`.
     pub fn take<D: Device, R: Wait>(
         &mut self,
         rt: &R,
@@ -184,7 +184,7 @@ impl<A: Allocator + Clone, B: SessionName> Client<A, B> {
     /// No clause says what a policy advises, nor that anything is taken: one that never took anything would meet this contract, and
     /// only tests exclude it.
     ///
-    /// It is refused with `TrailFull` where there is something to take and the trail has no place for another entry, and with
+    /// Fails with `TrailFull` where there is something to take and the trail has no place for another entry, and with
     /// `NoMemory`.
     pub fn take_next<D: Device, R: Wait>(
         &mut self,
@@ -202,7 +202,7 @@ impl<A: Allocator + Clone, B: SessionName> Client<A, B> {
     /// Brings a result that was built of an input which a turn of this client handed out, in one hold of the lock. It is accepted
     /// only where the job still waits for it. Where there is no room for its tables the job is given up in the same hold.
     ///
-    /// It is refused with `TrailFull` where the trail has no place for the next entry, and with `NoMemory`. What was entered
+    /// Fails with `TrailFull` where the trail has no place for the next entry, and with `NoMemory`. What was entered
     /// before stands.
     pub fn bring<D: Device, R: Wait>(
         &mut self,

@@ -1,4 +1,4 @@
-// The history of a session, as the value behind the lock keeps it.
+// The history of a session, as the lock's value keeps it.
 ghost use Rattle.std.specs.Prelude.{◌≡◌, ◌+◌, ◌<◌, ◌≤◌, ◌==◌, Bool, ℕ, [], ◌∷◌, ◌++◌, length, if◌then◌else◌};
 ghost use mathlib.Core.List.{IsPrefix};
 ghost use Rattle.lsm_store.specs.Backing.{machine_of};

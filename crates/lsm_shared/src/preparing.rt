@@ -13,12 +13,12 @@ const MOST_CLIENTS: u32 = 64;
 
 const MOST_ENTRIES: u32 = 65_536;
 
-/// Prepares a session of a store with so many clients and so many places in its trail: it makes the words that are read
+/// Prepares a session of a store with `clients` clients and `trail` places in its trail: it makes the words that are read
 /// without the lock. [`Shared::begin`](crate::Shared::begin) begins it, in a function that is generic in its name.
 ///
-/// It is refused with `Stopped`; with `TooManyClients` for no client or more than 64; with `BadLimit` for no place or more
-/// than 65,536; with `TooManySnapshots` where 32 are live, and with `Exhausted` where 2^63 were taken, since the session
-/// pins one; and with `NoMemory`. A refusal hands the store back.
+/// Fails with `Stopped`; with `TooManyClients` for no client or more than 64; with `BadLimit` for no place or more than
+/// 65,536; with `TooManySnapshots` where 32 are live, and with `Exhausted` where 2^63 were taken, since the session pins one;
+/// and with `NoMemory`. An error hands the store back.
 pub fn prepare<D: Device, A: Allocator + Clone>(
     alloc: A,
     store: Store<D, A>,

@@ -1,4 +1,4 @@
-// The value behind the lock.
+// The value that the lock guards.
 ghost use Rattle.std.specs.Prelude.{◌≡◌, ◌≢◌, ℕ, ◌≤◌, [], length, IsNone, IfOk, IfErr, MatchBool};
 ghost use mathlib.Core.List.{IsPrefix};
 ghost use Rattle.lsm_lives.specs.Calls.{call_of, told_of};
@@ -18,7 +18,7 @@ use lsm_trail::{Counters, Entry, Pass, SessionName, Trail};
 use std::alloc::Allocator;
 use std::marker::Model;
 
-/// The value behind the lock: the store, the number of the base, and the history. Contracts see the store and the history.
+/// The value that the lock guards: the store, the number of the base, and the history. Contracts see the store and the history.
 #[derive(Drop)]
 pub struct Session<D: Device, A: Allocator, B: SessionName> {
     pub(crate) store: Store<D, A>,
@@ -103,7 +103,7 @@ impl<D: Device, A: Allocator, B: SessionName> Session<D, A, B> {
 }
 
 impl<D: Device, A: Allocator + Clone, B: SessionName> Session<D, A, B> {
-    /// Serves a call of the client, and enters it. It is refused as [`Client::call`] is. The client sees the history first.
+    /// Serves a call of the client, and enters it. Fails as [`Client::call`]. The client sees the history first.
     pub fn serve(
         &mut self,
         counters: &Counters<D, A, B>,

@@ -20,7 +20,7 @@ use std::sync::{Mutex, MutexGuard, Wait};
 /// How often the lock is tried for before a thread sleeps.
 const TRIES: u32 = 32;
 
-/// How often the processor pauses behind the first try: for about as long as a commit holds the lock.
+/// How often the processor pauses after the first try: for about as long as a commit holds the lock.
 const FEWEST_PAUSES: u32 = 32;
 
 /// How often it pauses at most between two tries. Whoever has the lock makes many commits in that time, so what the lock guards
@@ -33,8 +33,8 @@ fn pause(times: u32) {
     }
 }
 
-/// A session: a store behind one lock, with one history of all calls and pieces of work. Other modules of this crate come to the lock
-/// by `hold` alone.
+/// A session: a store guarded by one lock, with one history of all calls and pieces of work. Other modules of this crate come to the
+/// lock by `hold` alone.
 pub struct Shared<D: Device, A: Allocator, B: SessionName> {
     pub(crate) counters: Counters<D, A, B>,
     session: Mutex<Session<D, A, B>>,
@@ -70,7 +70,7 @@ fn places<A: Allocator + Clone, B: SessionName>(
     Ok((trail, clients))
 }
 
-// Pins the base of the session, and answers its number.
+// Pins the base of the session, and returns its number.
 fn pin<D: Device, A: Allocator + Clone, B: SessionName>(
     store: &mut Store<D, A>,
 ) -> Result<u64, Refusal>
@@ -158,8 +158,8 @@ impl<D: Device, A: Allocator, B: SessionName> Shared<D, A, B> {
     }
 
     /// Ends the session: it gives the store, which lets the base go unless it is stopped, and the trail, which begins with
-    /// what each client had seen and has just the calls that each client made. It is refused with `NotYours` where these are not the session's clients, each once, and
-    /// then hands all back.
+    /// what each client had seen and has just the calls that each client made. Fails with `NotYours` where they are not the session's
+    /// clients, each once, and then hands all back.
     pub fn finish(
         self,
         clients: Vec<Client<A, B>, A>,

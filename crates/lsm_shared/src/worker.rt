@@ -75,14 +75,14 @@ fn choose<D: Device, B: SessionName, R: Threads + Wait + Sync>(
 }
 
 /// Takes a turn at the jobs of a store: a flush that waits is taken first, and then the next piece of a job that is held is done. If that
-/// hands out an input, the result is built in so many parts, 1 to 8, each in a thread of its own and with no lock in hand, and brought.
-/// If nothing of the kind is left to do, and no merge is held, the merge that a policy advises is taken. It returns whether there was
+/// hands out an input, the result is built in `parts` parts, 1 to 8, each in a thread of its own and without the lock, and brought. If
+/// nothing of the kind is left to do, and no merge is held, the merge that a policy advises is taken. It returns whether there was
 /// something to do.
 ///
 /// So there is one merge at a time, and a slot is left for each flush.
 ///
-/// It is refused as a turn and a bringing are, with `TrailFull` and `NoMemory`, and with `BadLimit` where a result is to be built in
-/// another number of parts. What was entered before stands.
+/// Fails as a turn and a bringing do, with `TrailFull` and `NoMemory`, and with `BadLimit` where a result is to be built in another
+/// number of parts. What was entered before stands.
 ///
 /// No clause says that the policy is asked, nor how many threads there are: the tables of a result are the same for each number
 /// of parts. Tests show the first.
@@ -111,7 +111,7 @@ pub fn take_turn<D: Device, B: SessionName, R: Threads + Wait + Sync>(
     }
 }
 
-/// Takes turns by a policy until nothing is left to do, or so many. It returns whether nothing was left.
+/// Takes at most `turns` turns by a policy, until nothing is left to do. Returns whether nothing was left.
 pub fn work<D: Device, B: SessionName, R: Threads + Wait + Sync>(
     rt: &R,
     alloc: Global,

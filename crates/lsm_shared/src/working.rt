@@ -346,7 +346,7 @@ fn advised<D: Device, A: Allocator>(store: &Store<D, A>, policy: &Policy) -> Opt
     Some(choice)
 }
 
-// Whether a store, asked for the job of a choice, tells that there is none. A stopped one refuses that.
+// Whether a store, asked for the job of a choice, says that there is none. A stopped one refuses that.
 fn gives_none<D: Device, A: Allocator>(store: &Store<D, A>, choice: Choice) -> bool
     ensures { MatchBool result
         (work_decided (machine_of store.now) (Take (Some choice)) ≡ Given None)

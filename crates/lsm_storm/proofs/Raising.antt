@@ -55,7 +55,7 @@ counted_next m count fits =
 
 -- ---- the guard
 
--- behind four other tests, one that holds refuses
+-- after four other tests, one that holds refuses
 last_test : (s : State) (call : Call) (n : ℕ) (a b c d g : Bool) (p q r t u : Refusal)
     → Number n ≡ reply_by s call (first_refusal ((a, p) ∷ (b, q) ∷ (c, r) ∷ (d, t) ∷ (not g, u) ∷ [])) → g ≡ true
 last_test s call n true b c d g p q r t u e = cc

@@ -20,7 +20,7 @@ use Rattle.lsm_shared.specs.Sessions.{begin_refusal}
 use Rattle.lsm_storm.specs.Counters.{counter_key}
 use Rattle.lsm_storm.specs.Storms.{IsFresh, IsSessionRefusal}
 
--- behind the test whether the store is stopped there is no other
+-- after the test whether the store is stopped there is no other
 of_stopped : (s : State) (call : Call) (e : Refusal) (b : Bool) → ((r : Refusal) → Refused r ≡ answer s call → ⊥)
     → Refused e ≡ reply_by s call (if b then Some Stopped else None) → IsSessionRefusal e
 of_stopped s call e true no_answer is = let same : e ≡ Stopped = cc in subst IsSessionRefusal (sym same) tt

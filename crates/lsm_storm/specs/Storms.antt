@@ -55,7 +55,7 @@ IsSessionRefusal Io = Unit {0}
 IsSessionRefusal Stopped = Unit {0}
 IsSessionRefusal other = ⊥
 
--- those of a storm, which counts rows page by page, at most so many
+-- those of a storm, which counts rows page by page, up to a limit
 abbrev pub IsStormRefusal : Refusal → Type 0
 IsStormRefusal e = (e ≡ BadLimit) ⊎ IsSessionRefusal e
 
@@ -67,7 +67,7 @@ pub record IsFresh (store : StoreView) : Type 0 where
   pub backed : IsBacked store
   pub cache : HasNewCache store
 
--- A session begins with such a store, so many clients and workers, and 65,536 places in its trail.
+-- A session begins with such a store, `threads` clients and workers, and 65,536 places in its trail.
 pub record IsFreshBegin (threads : ℕ) (b : Begin) : Type 0 where
   pub fresh : IsFresh b.store
   pub clients : b.clients ≡ threads
@@ -84,8 +84,8 @@ pub record HasEndedFresh (threads : ℕ) (store : StoreView) (trail : TrailView)
   pub fresh : IsFreshBegin threads begin
   pub ended : HasEnded begin store trail
 
--- So many clients and workers shared a fresh store in a session that has ended: these are the commits in its trail that were
--- answered with a number, as many as the batches of the store, the keys of its map, and the pieces of work in the trail.
+-- `threads` clients and workers shared a fresh store in a session that has ended: these are the commits in its trail that
+-- returned a number, as many as the batches of the store, the keys of its map, and the pieces of work in the trail.
 pub record HasStormed (threads : ℕ) (counts : Counts) : Type 0 where
   pub store : StoreView
   pub trail : TrailView

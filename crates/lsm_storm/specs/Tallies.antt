@@ -7,8 +7,8 @@ use Rattle.lsm_storm.specs.Counters.{counted_in, AreCounting}
 use Rattle.lsm_storm.specs.Storms.{HasEndedFresh, accepted_in}
 use Rattle.lsm_storm.specs.declared.tallying.Tallied.{Tallied}
 
--- So many clients shared a fresh store in a session that has ended, and only counted: this is the counter that is left, and so many
--- commits in its trail were answered with a number.
+-- `threads` clients shared a fresh store in a session that has ended, and only counted: these are the counter that is left, and the
+-- number of commits in its trail that returned a number.
 pub record HasTallied (threads : ℕ) (tally : Tallied) : Type 0 where
   pub store : StoreView
   pub trail : TrailView

@@ -37,7 +37,7 @@ fn commit<B: SessionName, R: Wait>(
     let _ = me.call(rt, shared, Call::Commit(batch));
 }
 
-// Rotates before the commit of this number where it is in the middle of so many, whatever comes of it.
+// Rotates before the commit of this number where it is in the middle of `commits`, ignoring any error.
 fn rotate_in_the_middle<B: SessionName, R: Wait>(
     rt: &R,
     shared: &Shared<MemDevice, Global, B>,
@@ -53,7 +53,7 @@ fn rotate_in_the_middle<B: SessionName, R: Wait>(
     let _ = me.call(rt, shared, Call::Rotate);
 }
 
-/// Makes so many commits, each of a key of its own, and in their middle one rotation, whatever comes of each.
+/// Makes `commits` commits, each of a key of its own, and in their middle one rotation, ignoring any error.
 pub(crate) fn commit_all<B: SessionName, R: Wait>(
     rt: &R,
     alloc: Global,

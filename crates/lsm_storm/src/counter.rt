@@ -110,7 +110,7 @@ fn try_once<B: SessionName, R: Wait>(
     let _ = value_of(rt, shared, me, call);
 }
 
-/// Tries so many times to raise the counter.
+/// Tries `tries` times to raise the counter.
 pub(crate) fn count_up<B: SessionName, R: Wait>(
     rt: &R,
     alloc: Global,

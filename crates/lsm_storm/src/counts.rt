@@ -93,7 +93,7 @@ pub(crate) fn rows_in(store: &mut Store<MemDevice>) -> Result<u64, Refusal>
     Ok(rows)
 }
 
-// How many rows it has from a key on, in so many pages at most.
+// How many rows it has from a key on, in at most `pages` pages.
 fn rows_from(store: &mut Store<MemDevice>, from: &[u8], pages: u32) -> Result<u64, Refusal>
     requires { IsBacked store.old }
     ensures rows { IfOk result (λ rows. rows ≡ length (pairs_in (present_map store.old.state.points) from.now None)) }

@@ -22,13 +22,13 @@ const MOST_THREADS: usize = 64;
 /// What each of a crew is to do.
 #[derive(Clone, Copy)]
 pub(crate) enum Tasks {
-    /// Those of the first numbers are clients, which make so many commits, and the others workers.
+    /// The first ones by number are clients, which make `commits` commits each, and the others workers.
     Storm { clients: u16, commits: u16 },
-    /// All are clients, which try so many times to raise one counter.
+    /// All are clients, which try `tries` times to raise one counter.
     Tally { tries: u16 },
 }
 
-// How many calls so many clients make: each its commits and a rotation.
+// How many calls `clients` clients make: each its commits and a rotation.
 fn calls_of(clients: u16, commits: u16) -> u64 {
     u64::from(clients).saturating_mul(u64::from(commits) + 1)
 }

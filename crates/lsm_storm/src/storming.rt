@@ -23,7 +23,7 @@ const PLACES: u32 = 65_536;
 /// clients have made all their calls and nothing is left to do, and builds and brings what these hand out to be merged. Whatever one
 /// of them is answered, it goes on.
 ///
-/// It is refused with `NoMemory`, where memory for the store, the session or a page is refused; with `Io` or `Stopped`, where the
+/// Fails with `NoMemory`, where memory for the store, the session or a page is refused; with `Io` or `Stopped`, where the
 /// device had none for a write; and with `BadLimit` for more than 65,536 pages of rows. What a client or a worker is refused is no refusal of the storm: the counts show it.
 pub fn storm<R: Threads + Wait + Sync>(rt: &R, alloc: Global, load: Load) -> Result<Counts, Refusal>
     ensures stormed { IfOk result (HasStormed (load.clients + load.workers)) }
@@ -58,7 +58,7 @@ fn threads_of(load: Load) -> u32
     clients + workers
 }
 
-/// A session of so many threads on an empty store, which has ended.
+/// A session of `threads` threads on an empty store, which has ended.
 pub(crate) fn shared_by_all<R: Threads + Wait + Sync>(
     rt: &R,
     alloc: Global,

@@ -26,8 +26,8 @@ pub struct Tallied {
 /// has commits, each client gets the key 00 and commits the next number, under the guard that the key still has the value that it
 /// got. Whatever one of them is answered, it goes on. Of the load it takes clients and commits alone.
 ///
-/// It is refused with `NoMemory`, where memory for the store or the session is refused; and with `Io` or `Stopped`, where the device
-/// had none for a write. What a client is refused is no refusal of the tally.
+/// Fails with `NoMemory`, where memory for the store or the session is refused; and with `Io` or `Stopped`, where the device
+/// had none for a write. An error of a client is no error of the tally.
 pub fn tally<R: Threads + Wait + Sync>(
     rt: &R,
     alloc: Global,

@@ -34,7 +34,7 @@ fn has_ended<B: SessionName, R: Threads + Wait + Sync>(
     idle && made >= calls
 }
 
-/// Takes turns until the clients have made all these calls and nothing is left to do, for so many turns at most.
+/// Takes turns until the clients have made all these calls and nothing is left to do, for at most `TURNS` turns.
 pub(crate) fn work<B: SessionName, R: Threads + Wait + Sync>(
     rt: &R,
     alloc: Global,

@@ -21,7 +21,7 @@ abbrev build_shown : ℕ → ℕ → Reply → Beside → Event
 build_shown client job (Number result) b = event client (Worked (Ask job)) (Handed b.made.input) result b.machine
 build_shown client job other b = event client (Worked (Ask job)) other 0 b.machine
 
--- the reply of a step of which this was told, where the machine is so behind it
+-- the reply of a step of which this was told, where the machine is so after it
 abbrev pub reply_behind : Step → State → Reply → Reply
 reply_behind (Called call) s told = reply_in call s told
 reply_behind (Worked piece) s told = told

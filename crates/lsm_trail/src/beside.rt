@@ -35,7 +35,7 @@ impl Beside {
         Beside {}
     }
 
-    /// Beside an entry behind which the store is so.
+    /// For an entry, after which the store is so.
     pub(crate) fn by_store<D: Device, A: Allocator>(_store: &Store<D, A>) -> Beside
         ghost shown: { Shown }
         ensures { result.shown ≡ shown }
@@ -43,7 +43,7 @@ impl Beside {
         Beside::of()
     }
 
-    /// Beside one of a build, to which this input was lent.
+    /// For the entry of a build, to which this input was lent.
     pub(crate) fn by_input<D: Device, A: Allocator>(
         _store: &Store<D, A>,
         _input: &Input<A>,
@@ -54,7 +54,7 @@ impl Beside {
         Beside::of()
     }
 
-    /// Beside one of an accept, which takes this result.
+    /// For the entry of an accept, which takes this result.
     pub(crate) fn by_result<D: Device, A: Allocator>(
         _store: &Store<D, A>,
         _built: &Built<A>,

@@ -48,7 +48,7 @@ impl<A: Allocator> Model for Entry<A> {
 }
 
 impl<A: Allocator> Entry<A> {
-    /// The entry of a client's call, behind which the store is so.
+    /// The entry of a client's call, after which the store is so.
     pub fn of_call<D: Device>(
         client: u32,
         call: Call<A>,
@@ -66,7 +66,7 @@ impl<A: Allocator> Entry<A> {
         }
     }
 
-    /// The entry of a piece of work that a client did and that the store does by itself, behind which the store is so.
+    /// The entry of a piece of work that a client did and that the store does by itself, after which the store is so.
     pub fn of_work<D: Device>(
         client: u32,
         work: Work,

@@ -1,4 +1,4 @@
-// What threads carry beside the words of a session.
+// What threads carry along with the words of a session.
 
 use crate::entry::Entry;
 use atomic_table::Seat;

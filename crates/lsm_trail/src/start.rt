@@ -5,7 +5,7 @@ use lsm_store::Store;
 use std::alloc::{Allocator, Global};
 use std::marker::{Brand, Model};
 
-/// Names a session in types. The value behind the lock and the clients have it, so that contracts know that they are of
+/// Names a session in types. The value that the lock guards and the clients have it, so that contracts know that they are of
 /// one session.
 pub trait SessionName {
     ghost use Rattle.lsm_trail.specs.Knowledge.{SessionId};

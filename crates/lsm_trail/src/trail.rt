@@ -32,7 +32,7 @@ impl<A: Allocator> Model for Trail<A> {
 }
 
 impl<A: Allocator> Trail<A> {
-    /// A trail with no entry, and places for so many.
+    /// A trail with no entry, and room for `limit` entries.
     pub fn new(alloc: A, limit: usize) -> Result<Trail<A>, AllocError>
         ensures { IfOk result (λ trail. trail ≡ record { log = []; limit = limit }) }
     {

@@ -17,7 +17,7 @@ use Rattle.lsmctl.specs.Answers.{TellsDumped, WasOpened}
 use Rattle.lsmctl.specs.Dumping.{Dumps, DumpsPage, IsUnprinted, RefusesPage, StopsAtPage, StopsDumping, pages_lines, rows_lines}
 use Rattle.lsm_serve.proofs.ServingLaws.{appends_none, appends_more}
 
--- so many pages were found and printed so far
+-- `count` pages were found and printed so far
 pub record IsDumping (count : ℕ) (walk : WalkView) (old now : StoreView) (output output_now : Option (List ℕ)) : Type 0 where
   pub pages : List Page
   pub number : length pages ≡ count
@@ -29,7 +29,7 @@ pages_lines-more : (pages : List Page) (page : Page) → pages_lines (pages ++ p
 pages_lines-more [] page = append-nil (rows_lines page)
 pages_lines-more (p ∷ pages) page = ap (λ (l : List ℕ). rows_lines p ++ l) (pages_lines-more pages page) ∙ sym (append_assoc (rows_lines p) (pages_lines pages) (rows_lines page))
 
--- a page more behind others
+-- a page more after others
 walks_more : (at : At) (from : Option Bytes) (pages : List Page) (key : Bytes) (page : Page) (old now next : StoreView) → WalksTo at from pages (Some key) old now
     → Serves now (Scan at key None 64) (Rows page) next → WalksTo at from (pages ++ page ∷ []) page.next old next
 walks_more at None [] key page old now next (to, same) serves = absurd (not_none to)

@@ -74,7 +74,7 @@ taken_to row old new s (batch, is, becomes) begun rows l = record {
   puts = l.puts;
 }
 
--- it begins a batch, behind those that were committed
+-- it begins a batch, after those that were committed
 pub taken_alone : (row : Operation) (old mid new : Loading) (before after : StoreView) → CommitsWaiting old before mid after
     → new ≡ record { batch = Some (row ∷ []); read = mid.read + 1; loaded = mid.loaded } → Takes row old before new after
 taken_alone row old mid new before after done is begun rows l =
@@ -95,7 +95,7 @@ not_fit old new s same begun rows l = subst (λ (x : Loading). IsLoading begun r
 
 -- ---- what was read
 
--- a line was read whole, and what stands behind it is left, as far as that is known
+-- a line was read whole, and what comes after it is left, as far as that is known
 abbrev pub IsWhole : Option (List ℕ) → List ℕ → Option (List ℕ) → Type 0
 IsWhole left line after = IfSome left (λ text. (rest : List ℕ) × (after ≡ Some rest) × (lines_of text ≡ line ∷ lines_of rest))
 
@@ -293,7 +293,7 @@ ends-put input (Err (Unopened cause)) rows loading has after next other ends = a
 ends-put input (Err (InputFault error)) rows loading has after next other (begins, same) = (begins, refl)
 ends-put input (Err (OutputFault error)) rows loading has after next other ends = absurd ends
 
--- the store has not changed behind the last of them
+-- the store has not changed after the last of them
 ends-same : (input : Option (List ℕ)) (ended : Result (Unit {0}) Fault) (rows : List Operation) (loading : Loading) (has after : StoreView) → is_refused ended ≡ false
     → EndsReading ended input rows loading has after → after ≡ has
 ends-same input (Ok done) rows loading has after other (are, same) = same
@@ -384,7 +384,7 @@ pub loads_behind : (input : Option (List ℕ)) (r : Result Loaded Refusal) (befo
 loads_behind input (Ok loaded) before kept after keeps same loads = loaded_behind input loaded before kept after keeps same loads
 loads_behind input (Err e) before kept after keeps same loads = tt
 
--- or the sync behind them was refused
+-- or the sync after them failed
 pub refuses_behind : (input : Option (List ℕ)) (r : Result Loaded Refusal) (before kept : StoreView) → IsKeptUp before kept → IfErr r (RefusesLastSync input kept)
     → IfErr r (RefusesToLoad input before)
 refuses_behind input (Ok loaded) before kept keeps refused = tt

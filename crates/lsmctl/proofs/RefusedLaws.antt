@@ -29,12 +29,12 @@ refuses call before after e serves = record { reply = Refused e; after = after; 
 pub tell_refused : (call : Call) (before after : StoreView) (e : Refusal) → Serves before call (Refused e) after → RefusesToTell call before e
 tell_refused call before after e serves = inr (refuses call before after e serves)
 
--- a batch was refused behind a keeping up
+-- a batch was refused after upkeep
 pub write_refused : (guards : Option (List Condition)) (batch : List Operation) (before kept after : StoreView) (e : Refusal) → IsKeptUp before kept → Writes guards batch kept (Refused e) after
     → RefusesToCommit guards batch before e
 write_refused guards batch before kept after e keeps writes = record { kept = kept; keeps = keeps; refused = inl (after, writes) }
 
--- or the sync behind it
+-- or the sync after it
 pub sync_refused : (guards : Option (List Condition)) (batch : List Operation) (before kept between after : StoreView) (number : ℕ) (e : Refusal) → IsKeptUp before kept
     → Writes guards batch kept (Number number) between → Serves between Sync (Refused e) after → RefusesToCommit guards batch before e
 sync_refused guards batch before kept between after number e keeps writes refused = record {

@@ -83,7 +83,7 @@ output_lines (Tally false) = codes "tally bad" ++ 10 ∷ []
 abbrev pub lines_of : Answer → List ℕ
 lines_of answer = output_lines answer.output
 
--- The file that is handed out has so many sectors and was made a store: since it was made, just the writes and syncs of a
+-- The file that is handed out has `sectors` sectors and was made a store: since it was made, just the writes and syncs of a
 -- format were made in it, and none of them failed. Its data blocks are told.
 pub record HasFormatted (sectors log : ℕ) (answer : Answer) : Type 0 where
   pub file : FileDevice
@@ -212,7 +212,7 @@ pub record HasReplies (asked : List Asked) (steps : List Told) (before after : S
   pub makes : MakesEach [] before asked replies after
   pub told : HasLines (replies_text steps replies) output
 
--- Lives were led on a device in memory of so many sectors with an empty store, and the replies to them are told. They keep
+-- Lives were led on a device in memory of `sectors` sectors with an empty store, and the replies to them are told. They keep
 -- the promise over crashes.
 pub record HasLives (sectors log_sectors : ℕ) (lives : List LifeView) (steps : List (List Told)) (output : Output) : Type 0 where
   pub device : Medium
@@ -224,21 +224,21 @@ pub record HasLives (sectors log_sectors : ℕ) (lives : List LifeView) (steps :
   pub promise : KeepPromise log_sectors [] empty_store (asked_in lives) replies (disk left)
   pub told : HasLines (lives_text steps replies) output
 
--- so many clients and workers shared a store in memory, and what is counted of that is told
+-- `threads` clients and workers shared a store in memory, and what is counted of that is told
 pub record HasCounted (threads : ℕ) (output : Output) : Type 0 where
   pub counts : Counts
   pub stormed : HasStormed threads counts
   pub told : HasLines (counts_lines counts) output
 
--- Every crash of a life of these steps was explored, on a device in memory of so many sectors, and every crash of the openings
--- behind it; nothing was wrong, and what was counted is told.
+-- Every crash of a life of these steps was explored, on a device in memory of `sectors` sectors, and every crash of the
+-- openings after it; nothing was wrong, and what was counted is told.
 pub record HasExplored (sectors log_sectors : ℕ) (asked : List Asked) (output : Output) : Type 0 where
   pub counts : Explored
   pub explored : IsExplored sectors log_sectors asked true counts
   pub right : counts.wrong ≡ 0
   pub told : output ≡ CountsCrashes counts
 
--- so many clients raised a counter in memory, and it is told whether it is the number of their accepted commits
+-- `clients` clients raised a counter in memory, and it is told whether it is the number of their accepted commits
 pub record HasCountedTogether (clients : ℕ) (output : Output) : Type 0 where
   pub tally : Tallied
   pub tallied : HasTallied clients tally
@@ -276,7 +276,7 @@ pub record HasServed (input output output_after : Option (List ℕ)) (before aft
   pub runs : is_some after.state.stopped ≡ false
   pub told : answered ≡ Served
 
--- What a request comes to, of this input: an answer, which is to be printed behind what the output holds then.
+-- What a request comes to, of this input: an answer, which is to be printed after what the output holds then.
 abbrev pub Comes : Request → Option (List ℕ) → Option (List ℕ) → Option (List ℕ) → Answer → Type 0
 Comes (request.Dump file) input output output_after answer = OfDumped output output_after answer
 Comes (request.Load file) input output output_after answer = OfOpened (HasLoaded input) answer × (output_after ≡ output)
@@ -292,7 +292,7 @@ TellsDumped (unopened cause) output output_after = output_after ≡ output
 TellsDumped unwritten output output_after = Unit {0}
 TellsDumped other output output_after = ⊥
 
--- a number of rows was printed behind why there are no more, which is told; or it could not be printed
+-- a number of rows was printed after why there are no more, which is told; or it could not be printed
 abbrev pub TellsNumber : ℕ → Reason → Reason → Option (List ℕ) → Option (List ℕ) → Type 0
 TellsNumber rows why reason output output_after = ((reason ≡ why) × Appends output output_after (loaded_line rows)) ⊎ (reason ≡ unwritten)
 

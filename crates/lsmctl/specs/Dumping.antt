@@ -24,7 +24,7 @@ rows_lines page = flat_map row_line page.rows
 abbrev pub pages_lines : List Page → List ℕ
 pages_lines pages = flat_map rows_lines pages
 
--- A page was found behind a walk, and its lines were printed; or the walk was at its end.
+-- A page was found after a walk, and its lines were printed; or the walk was at its end.
 abbrev pub DumpsPage : Bool → WalkView → WalkView → StoreView → StoreView → Option (List ℕ) → Option (List ℕ) → Type 0
 DumpsPage true old new before after output output_after = (page : Page) × GoesOn old page new before after × Appends output output_after (rows_lines page)
 DumpsPage false old new before after output output_after = (old.from ≡ None) × (after ≡ before) × (output_after ≡ output)

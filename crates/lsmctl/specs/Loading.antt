@@ -18,7 +18,7 @@ use Rattle.lsmctl.specs.declared.answer.Output.TheVariants.{Loaded as LoadedRows
 
 -- ---- rows in a store
 
--- rows were put in so many batches, one after another
+-- rows were put in n batches, one after another
 abbrev pub PutsRows : ℕ → List Operation → StoreView → StoreView → Type 0
 PutsRows zero rows before after = (rows ≡ []) × (after ≡ before)
 PutsRows (suc batches) rows before after = (earlier batch : List Operation) × (between : StoreView) × (rows ≡ earlier ++ batch) × PutsRows batches earlier before between × Adds batch between after
@@ -33,7 +33,7 @@ BeginsWith all rows = (rest : List Operation) × (all ≡ rows ++ rest)
 abbrev pub AreFirstRows : Option (List ℕ) → List Operation → Type 0
 AreFirstRows input rows = IfSome input (λ all. BeginsWith (rows_of (lines_of all)) rows)
 
--- these are all rows of an input up to a line that is none, if there is such a line
+-- these are all rows of an input up to a line that is no row, if there is such a line
 abbrev pub AreRowsOf : Option (List ℕ) → Bool → List Operation → Type 0
 AreRowsOf input whole rows = IfSome input (λ all. (rows ≡ rows_of (lines_of all)) × (are_rows (lines_of all) ≡ whole))
 
@@ -47,11 +47,11 @@ IsShort input e = (e ≡ NoMemory) ⊎ ((e ≡ Exhausted) × HasTooMany input)
 
 -- ---- how a loading ends
 
--- rows behind those that a store has were not added to it: the first ones that were to come, or no others were read
+-- rows after those that a store has were not added to it: the first ones that were to come, or no others were read
 abbrev pub StopsAt : Option (List ℕ) → List Operation → StoreView → Refusal → StoreView → Type 0
 StopsAt input rows has e after = ((batch : List Operation) × AreFirstRows input (rows ++ batch) × AddsNot batch has e after) ⊎ (IsShort input e × (after ≡ has))
 
--- Rows of an input are in a store, and for this reason no more are: a line behind them is no row; they or a batch behind them could not be
+-- Rows of an input are in a store, and for this reason no more are: a line after them is no row; they or a batch after them could not be
 -- taken; or the input could not be read.
 abbrev pub EndsFor : Reason → Option (List ℕ) → List Operation → StoreView → StoreView → Type 0
 EndsFor mistake input rows has after = AreRowsOf input false rows × (after ≡ has)
@@ -73,14 +73,14 @@ pub record LoadsRows (input : Option (List ℕ)) (ended : Result (Unit {0}) Faul
   pub ends : EndsWith ended input rows has after
   pub map : map_in after ≡ apply (map_in before) rows
 
--- So many rows of the input were, and they are synced.
+-- `loaded.rows` rows of the input were, and they are synced.
 pub record IsLoaded (input : Option (List ℕ)) (loaded : Loaded) (before after : StoreView) : Type 0 where
   pub between : StoreView
   pub loads : LoadsRows input loaded.ended before between
   pub number : loaded.rows ≡ length loads.rows
   pub syncs : Serves between Sync Done after
 
--- They were, and the sync behind the last of them was refused so.
+-- They were, and the sync after the last of them failed so.
 pub record RefusesLastSync (input : Option (List ℕ)) (before : StoreView) (e : Refusal) : Type 0 where
   pub ended : Result (Unit {0}) Fault
   pub between : StoreView

@@ -23,14 +23,14 @@ use Rattle.lsmctl.specs.Commits.{IsKeptUp, Refuses}
 abbrev pub RefusesToTell : Call → StoreView → Refusal → Type 0
 RefusesToTell call before e = (e ≡ NoMemory) ⊎ Refuses call before e
 
--- The batch was written, and the sync behind it was refused.
+-- The batch was written, and the sync after it failed.
 pub record RefusesToSync (guards : Option (List Condition)) (batch : List Operation) (before : StoreView) (e : Refusal) : Type 0 where
   pub number : ℕ
   pub between : StoreView
   pub writes : Writes guards batch before (Number number) between
   pub refused : Refuses Sync between e
 
--- The store was kept up; then the batch was refused, or the sync behind it.
+-- The store was kept up; then the batch was refused, or the sync after it.
 pub record RefusesToCommit (guards : Option (List Condition)) (batch : List Operation) (before : StoreView) (e : Refusal) : Type 0 where
   pub kept : StoreView
   pub keeps : IsKeptUp before kept

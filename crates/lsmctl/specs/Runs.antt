@@ -54,13 +54,13 @@ pub record IsRequested (words : List Text) (input : Option (List ℕ)) (request 
 
 -- ---- what comes of it
 
--- The answer is one to what the words and the input ask for, and is to be printed behind what the output holds then.
+-- The answer is one to what the words and the input ask for, and is to be printed after what the output holds then.
 pub record IsServed (words : List Text) (input output output_after : Option (List ℕ)) (answer : Answer) : Type 0 where
   pub request : Request
   pub requested : IsRequested words input request
   pub comes : Comes request input output output_after answer
 
--- and just its lines were printed there; it is none of those that tell what is wrong or lacks, with which a run ends with 1
+-- and just its lines were printed there; it isn't one of those that tell what is wrong or lacks, which end a run with 1
 pub record HasServed (words : List Text) (input output output_after : Option (List ℕ)) : Type 0 where
   pub answer : Answer
   pub between : Option (List ℕ)
@@ -96,7 +96,7 @@ pub record IsTried (words : List Text) (input : Option (List ℕ)) (reason : Rea
 abbrev pub Fails : List Text → Option (List ℕ) → Reason → Option (List ℕ) → Option (List ℕ) → Type 0
 Fails words input reason output output_after = (IsUntried words input reason × Keeps output output_after) ⊎ IsTried words input reason output output_after
 
--- rows were to be loaded, and were up to a line that is none
+-- rows were to be loaded, and were up to a line that is no row
 pub record LoadsToNoRow (words : List Text) (input output output_after : Option (List ℕ)) : Type 0 where
   pub file : Bor (List ℕ)
   pub requested : IsRequested words input (request.Load file)

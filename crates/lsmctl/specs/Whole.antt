@@ -24,7 +24,7 @@ first_short line [] short = begun_short line short
 first_short line (b ∷ text) short =
     first_when (b == 10) b line (lines_from [] text) (lines_from (line ++ b ∷ []) text) (λ longer. first_short (line ++ b ∷ []) text longer) short
 
--- what is behind a byte
+-- what is after a byte
 behind_when : (newline : Bool) (b room : ℕ) (line text : List ℕ) → (AreShort (lines_from [] text) → read_within 300001 text ≡ text)
     → (AreShort (lines_from (line ++ b ∷ []) text) → read_within (room - 1) text ≡ text)
     → AreShort (if newline then line ∷ lines_from [] text else lines_from (line ++ b ∷ []) text) → read_within (if newline then 300001 else room - 1) text ≡ text

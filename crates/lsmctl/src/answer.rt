@@ -12,7 +12,7 @@ use std::fmt;
 /// What a subcommand prints, as lines.
 #[derive(Drop)]
 pub enum Output {
-    /// A store was made with so many data blocks.
+    /// A store was made, with this number of data blocks.
     Formatted(u32),
     /// A batch of this number was committed and synced.
     Batch(u64),
@@ -24,7 +24,7 @@ pub enum Output {
     Lines(String),
     /// A line with the numbers of a store that is not compacted to the end, and what it lacks.
     Halfway(String, Lack),
-    /// So many rows were loaded.
+    /// This number of rows was loaded.
     Loaded(u64),
     /// All rows were printed before.
     Dumped,

@@ -13,9 +13,9 @@ use lsm_store::Store;
 use lsm_upkeep::{Upkeep, keep_up, write};
 use std::alloc::Global;
 
-/// Keeps a store up, commits a batch, where guards are given under them, and syncs it. A batch that puts values is refused with
-/// `NoSpace` where it finds no room in tables, though all were brought down as far as they go; a batch of deletes is so only where a
-/// snapshot is live, so that a store can be emptied.
+/// Keeps a store up, commits a batch, where guards are given under them, and syncs it. A batch that puts values fails with `NoSpace`
+/// where it finds no room in tables, though all were merged down as far as they go; a batch of deletes only where a snapshot is
+/// live, so that a store can be emptied.
 pub fn commit<D: Device>(
     alloc: Global,
     store: &mut Store<D>,

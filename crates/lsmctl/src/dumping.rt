@@ -31,7 +31,7 @@ pub fn dump_rows<D: Device, O: Write>(
     Err(Fault::Refused(Refusal::Exhausted))
 }
 
-// Prints the next page. It tells whether there was one.
+// Prints the next page. Returns whether there was one.
 fn dump_page<D: Device, O: Write>(
     alloc: Global,
     walk: &mut Walk,

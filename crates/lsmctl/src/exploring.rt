@@ -14,8 +14,8 @@ use lsm_progress::Progress;
 use std::alloc::Global;
 use std::thread::Threads;
 
-/// Explores every crash of a life of the steps of a script, and every crash of the openings behind it. It is refused for want of
-/// memory alone.
+/// Explores every crash of a life of the steps of a script, and every crash of the openings after it. Fails only with
+/// `NoMemory`.
 pub(crate) fn explore<R: Threads + Sync, P: Progress>(
     rt: &R,
     alloc: Global,

@@ -34,8 +34,8 @@ pub struct Loaded {
 }
 
 /// Puts the rows of an input into a store, in their order, and syncs them. It ends at the end of the input, at a line that is
-/// no row, or at a refusal; what was before that is in the store. It is refused itself where the sync is. It tells `progress` after
-/// each row how many are committed.
+/// no row, or at a failed commit; what was before that is in the store. It fails itself where the sync does. It tells `progress`
+/// after each row how many are committed.
 pub fn load_rows<D: Device, I: BufRead, P: Progress>(
     alloc: Global,
     store: &mut Store<D>,
@@ -108,7 +108,7 @@ fn read_rows<D: Device, I: BufRead, P: Progress>(
     Err(Fault::Refused(Refusal::Exhausted))
 }
 
-// The row of a line behind so many others.
+// The row of a line, after `before` others.
 fn row_in(alloc: Global, before: u64, line: &[u8]) -> Result<Op, Fault>
     ensures { MatchResult result (λ row. row_said line.now ≡ Some row) (λ e. ((reason_of e ≡ mistake) × (row_said line.now ≡ None)) ⊎ (reason_of e ≡ refusal NoMemory)) }
 {

@@ -5,7 +5,7 @@ use std::io::Write;
 use std::rt::Clock;
 use std::time::Instant;
 
-/// For so many seconds it shows nothing after a line, or after the start of the program.
+/// For this number of seconds it shows nothing after a line, or after the start of the program.
 const PAUSE: u64 = 1;
 
 /// Shows the milestones of a call, a line each, at most one a second: on a terminal all of them, and elsewhere how many rows are loaded,

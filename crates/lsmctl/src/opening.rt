@@ -46,7 +46,7 @@ pub(crate) fn open_read_only<R: Files<File = File> + AllocGlobal>(
     }
 }
 
-/// Makes a device of zero sectors beside the file whose place it takes.
+/// Makes a device of zero sectors in the folder of the file that it will replace.
 pub(crate) fn create_beside<R: Files<File = File> + AllocGlobal>(
     rt: &R,
     file: &str,

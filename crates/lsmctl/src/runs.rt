@@ -20,7 +20,7 @@ use lsm_store::Store;
 use std::alloc::{AllocError, Global};
 use std::thread::Threads;
 
-/// Makes steps on a store. A line answers each. It is refused for want of memory alone, which may be after the steps.
+/// Makes steps on a store. A line answers each. Fails only with `NoMemory`, which may be after the steps.
 pub fn replay<R: Threads + Sync, D: Device>(
     rt: &R,
     alloc: Global,
@@ -36,8 +36,8 @@ pub fn replay<R: Threads + Sync, D: Device>(
     Ok(Output::Lines(text))
 }
 
-/// Makes the lives of a script on an empty store in memory. A line answers each opening and each step. It is refused
-/// for want of memory alone.
+/// Makes the lives of a script on an empty store in memory. A line answers each opening and each step. Fails only with
+/// `NoMemory`.
 pub fn lives<R: Threads + Sync>(
     rt: &R,
     alloc: Global,

@@ -88,7 +88,7 @@ pub struct Lives {
 }
 
 impl Lives {
-    // Ends a life by a crash, behind the others.
+    // Ends a life by a crash, after the others.
     fn end(&mut self, alloc: Global, begun: Begun, kept: Kept) -> Result<(), AllocError>
         ensures lives { OnOk result (map life_of self.new.lives.items ≡ map life_of self.old.lives.items
             ++ (begun.fuse, begun.steps.steps.items, mask_said kept (length begun.steps.steps.items)) ∷ []) }

@@ -11,7 +11,7 @@ use crate::trouble::Trouble;
 use corwaphi::Pages;
 use lsm_device::Refusal;
 
-/// So many pages are told at most.
+/// At most this number of pages is read.
 const PAGES: u32 = 12;
 
 /// Commits the next batch of a stream under guards. It is added just if all of them are true, and else refused by the first false one.
@@ -72,7 +72,7 @@ pub(crate) fn compact(subject: &mut Subject) -> Result<(), Trouble> {
     Ok(())
 }
 
-/// Tells rows from the key of a number on page by page, with a batch of the stream behind each page. A snapshot is held meanwhile, since
+/// Reads rows from the key of a number on page by page, with a batch of the stream after each page. A snapshot is held meanwhile, since
 /// pages have one too.
 pub(crate) fn page_through(
     subject: &mut Subject,

@@ -76,7 +76,7 @@ fn told_row(value: &[u8]) -> u32 {
     row_of(u32::try_from(value.len()).unwrap_or(0), u32::from(*first))
 }
 
-/// So many of the first bytes, or all of them.
+/// The first `length` bytes, or all of them.
 fn part(bytes: &[u8], length: u32) -> &[u8] {
     match bytes.get(..length as usize) {
         Some(part) => part,
@@ -94,7 +94,7 @@ fn no_rows(alloc: Global) -> Result<Vec<u32>, AllocError> {
 }
 
 impl Book {
-    /// No value for any key, where keys have so many bytes.
+    /// No value for any key, where keys have `key_len` bytes.
     pub fn new(alloc: Global, key_len: u32) -> Result<Book, AllocError> {
         Ok(Book {
             alloc,
@@ -122,7 +122,7 @@ impl Book {
         byte
     }
 
-    /// The value that a put of so many bytes gives in the next batch.
+    /// The value that a put of `length` bytes gives in the next batch.
     pub fn next_value(&self, length: u32) -> Result<Vec<u8>, AllocError> {
         Ok(Vec::from_slice(self.alloc, part(&[self.byte(); MOST], length))?)
     }
@@ -151,7 +151,7 @@ impl Book {
         Ok(Gathered { batch, deeds })
     }
 
-    /// Adds an operation to a batch. It tells whether there was room in the batch.
+    /// Adds an operation to a batch. Returns whether there was room in the batch.
     pub fn add(&self, gathered: &mut Gathered, deed: Deed) -> Result<bool, Refusal> {
         match self.append(&mut gathered.batch, deed) {
             Ok(()) => {

@@ -9,10 +9,10 @@ use crate::subject::Subject;
 use crate::trouble::Trouble;
 use crate::wrong::make_wrong;
 
-/// Of so many batches one has another call behind it.
+/// One batch in this number has another call after it.
 const BATCHES: u32 = 4;
 
-/// So many snapshots are held at most.
+/// At most this number of snapshots is held.
 const HELD: usize = 4;
 
 /// The calls that come between batches, if any do.
@@ -31,7 +31,7 @@ impl Calls {
         }
     }
 
-    /// Makes another call, behind one of several batches.
+    /// Makes another call, after one batch in `BATCHES`.
     pub fn may_make(&mut self, subject: &mut Subject, stream: &mut Stream) -> Result<(), Trouble> {
         if !self.is_mixed || self.draws.below(BATCHES) != 0 {
             return Ok(());

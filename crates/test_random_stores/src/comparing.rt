@@ -65,7 +65,7 @@ pub(crate) fn ended(
     }
 }
 
-/// Compares the rows of a page with those from a number on, and answers the number behind them, none where they differ.
+/// Compares the rows of a page with those from a number on, and returns the number after them, `None` where they differ.
 pub(crate) fn matched(book: &Book, page: &Page, from: u32) -> Result<Option<u32>, AllocError> {
     let mut next = from;
     for place in 0..page.rows().len() {

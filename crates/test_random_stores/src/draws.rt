@@ -31,7 +31,7 @@ impl Draws {
         }
     }
 
-    /// A place among so many, 0 where there is none.
+    /// A place among `count`, 0 where there is none.
     pub fn place(&mut self, count: usize) -> usize {
         self.below(u32::try_from(count).unwrap_or(u32::MAX)) as usize
     }

@@ -46,7 +46,7 @@ pub struct Feeding {
     /// How many calls of a device fail in a round, of a store of which some do.
     pub strikes: u32,
     /// Whether other calls come between the batches, as guarded ones, reads, syncs and compactions; each store is led for three rounds then,
-    /// whether it gets full or not, and crashes come behind batches that were not synced.
+    /// whether it gets full or not, and crashes come after batches that were not synced.
     pub is_mixed: bool,
 }
 
@@ -73,7 +73,7 @@ fn rescue(subject: &mut Subject, stream: &mut Stream) -> Result<(), Trouble> {
     subject.compare()
 }
 
-/// Feeds a store until it is full, or gets so many batches. It tells whether it is full.
+/// Feeds a store until it is full, or gets `lines` batches. Returns whether it is full.
 fn fed<R: AllocGlobal>(
     rt: &R,
     subject: Subject,

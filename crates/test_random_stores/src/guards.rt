@@ -50,7 +50,7 @@ fn false_guard(alloc: Global, book: &Book, number: u32, is_absent: bool) -> Resu
     }
 }
 
-/// The number of a key: of two one has a value, as long as there are rows behind it.
+/// The number of a key: every other one has a value, as long as there are rows after it.
 pub(crate) fn drawn_key(book: &Book, draws: &mut Draws) -> u32 {
     let number = draws.below(KEYS);
     if draws.below(2) == 0 {

@@ -1,5 +1,5 @@
-//! Stores behind a front door ([`corwaphi::Db`]), on devices in memory, that are fed with random streams beside a plain list of the rows
-//! that they are to have: until they are full, rescued by deletes, and fed again. Calls of a device fail, and crashes come behind them.
+//! Stores of [`corwaphi::Db`] on devices in memory, fed with random streams and compared with a plain list of the rows that they are to
+//! have: until they are full, rescued by deletes, and fed again. Calls of a device fail, and crashes come after them.
 //!
 //! ```text
 //! let mut tally = Tally::new(rt.alloc());
@@ -13,7 +13,7 @@
 //! |---|---|
 //! | `draws`, `stream` | random numbers, and streams of puts and deletes |
 //! | `book`, `guards` | the rows that a store is to have, batches of deeds, and guards that are true of them, or aren't |
-//! | `subject`, `opening`, `comparing` | a store beside its book, how it is opened, and how the two are compared |
+//! | `subject`, `opening`, `comparing` | a store with its book, how it is opened, and how the two are compared |
 //! | `calls`, `asking`, `wrong` | other calls than commits of a stream, some of which are to be refused |
 //! | `striking`, `pending`, `risking` | calls of a device that fail, and what a crash may leave |
 //! | `feeding`, `tries` | what is led: random stores, and those that were once stuck |

@@ -7,20 +7,20 @@ use lsm_device::{MemDevice, Refusal};
 use lsm_open::format;
 use std::alloc::{AllocError, Global};
 
-/// At most so many writes pend when a crash comes; of more it keeps none.
+/// At most this number of writes pends when a crash comes; of more it keeps none.
 const PENDING: usize = 16_384;
 
 /// The call of the device that fails.
 #[derive(Clone, Copy)]
 pub(crate) struct Failure {
-    /// How many come before it, behind an opening or from its beginning on.
+    /// How many come before it, after an opening or from its beginning on.
     pub after: u64,
     pub in_opening: bool,
     /// Whether it pends where it is a write.
     pub kept: bool,
 }
 
-/// An empty store of so many sectors, with log regions of so many.
+/// An empty store of `sectors` sectors, with log regions of `log_sectors` sectors.
 pub(crate) fn begun<R: AllocGlobal>(
     rt: &R,
     sectors: u32,
@@ -41,7 +41,7 @@ pub(crate) fn opened<R: AllocGlobal>(rt: &R, device: MemDevice) -> Result<Db<Mem
     }
 }
 
-/// The store on a device of which a call may fail. Where the opening is refused for that, it is opened once more behind a crash.
+/// The store on a device of which a call may fail. Where the opening fails for that, it is opened once more after a crash.
 fn opened_again<R: AllocGlobal>(rt: &R, device: MemDevice) -> Result<Db<MemDevice>, Trouble> {
     match Db::on(rt, device, Options::default()) {
         Ok(db) => Ok(db),

@@ -12,7 +12,7 @@ pub(crate) struct Pending {
     /// How many batches there were at the opening, and how many are synced.
     number: u64,
     synced: u64,
-    /// Those since the opening, and behind them the one that was under way when a call failed.
+    /// Those since the opening, and after them the one that was under way when a call failed.
     batches: Vec<Vec<Deed>>,
     /// Whether a call failed that stops the store.
     is_stopped: bool,
@@ -81,7 +81,7 @@ impl Pending {
     }
 }
 
-/// What a book has behind so many of the first batches.
+/// What a book has after the first `count` batches.
 fn noted(book: Book, count: u64, batches: &[Vec<Deed>]) -> Book {
     let mut book = book;
     let mut rest = count;

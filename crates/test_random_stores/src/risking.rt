@@ -11,10 +11,10 @@ use crate::subject::Subject;
 use crate::trouble::Trouble;
 use lsm_device::Refusal;
 
-/// So many calls are made at most until one fails.
+/// At most this number of calls is made until one fails.
 const TURNS: u32 = 24;
 
-/// Makes calls, of which few are syncs, until one fails. It answers what a crash may leave.
+/// Makes calls, of which few are syncs, until one fails. Returns what a crash may leave.
 pub(crate) fn risk_all(
     subject: &mut Subject,
     stream: &mut Stream,

@@ -9,7 +9,7 @@ pub(crate) const KEYS: u32 = 65_536;
 /// The kinds of streams.
 const KINDS: u32 = 12;
 
-/// An operation on the key of a number: it puts a value of so many bytes, or deletes the key.
+/// An operation on the key of a number: it puts a value of a number of bytes, or deletes the key.
 #[derive(Clone, Copy)]
 pub(crate) struct Deed {
     pub key: u32,

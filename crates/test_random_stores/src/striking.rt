@@ -8,7 +8,7 @@ use crate::stream::Stream;
 use crate::subject::{Subject, Went};
 use crate::trouble::Trouble;
 
-/// So many batches are made at most until the call fails.
+/// At most this number of batches is made until the call fails.
 const TURNS: u32 = 12;
 
 /// The next batch: of two one deletes a row, and one is of a stream.
@@ -19,8 +19,8 @@ fn next_batch(subject: &Subject, stream: &mut Stream, turn: u32) -> Result<Gathe
     subject.gathered(stream)
 }
 
-/// Makes batches and syncs each, and merges all tables down behind every fourth, until a call fails. It answers the batch that a crash may
-/// leave, or not; none where no write and no sync failed.
+/// Makes batches and syncs each, and merges all tables down after every fourth, until a call fails. Returns the batch that a crash may
+/// leave or not; `None` where no write and no sync failed.
 fn risked(subject: &mut Subject, stream: &mut Stream) -> Result<Option<Gathered>, Trouble> {
     for turn in 0..TURNS {
         let gathered = next_batch(subject, stream, turn)?;
@@ -54,7 +54,8 @@ fn strike<R: AllocGlobal>(
     Ok(subject)
 }
 
-/// Lets so many calls fail, one behind each opening, or in every fourth: the first of them, and then each time one that comes so much later.
+/// Lets `count` calls fail, each after an opening, or within every fourth one: the first call, and then each time one a fixed number of
+/// calls later.
 pub(crate) fn strike_all<R: AllocGlobal>(
     rt: &R,
     subject: Subject,

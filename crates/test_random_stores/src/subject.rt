@@ -22,7 +22,7 @@ pub(crate) enum Went {
     Unsure,
 }
 
-/// A store, beside the values that its keys are to have.
+/// A store, with the values that its keys are to have.
 pub(crate) struct Subject {
     pub alloc: Global,
     pub db: Db<MemDevice>,
@@ -58,7 +58,7 @@ impl Drop for Subject {
 }
 
 impl Subject {
-    /// An empty store of so many sectors, with log regions of so many, and keys of so many bytes.
+    /// An empty store of `sectors` sectors, with log regions of `log_sectors` sectors, and keys of `key_len` bytes.
     pub fn new<R: AllocGlobal>(
         rt: &R,
         sectors: u32,
@@ -232,7 +232,7 @@ impl Subject {
         }
     }
 
-    /// Takes a snapshot, where fewer than so many are held. As long as one is, deletes may find no room either.
+    /// Takes a snapshot, where fewer than `most` are held. As long as one is, deletes may find no room either.
     pub fn hold(&mut self, most: usize) -> Result<(), Trouble> {
         if self.held.len() < most {
             let book = self.book.copy()?;

@@ -13,7 +13,7 @@ pub(crate) struct Course {
 }
 
 impl Course {
-    /// It was full so often.
+    /// It was full this number of times.
     pub fn of(refusals: u64) -> Course {
         Course {
             refusals,
@@ -55,7 +55,7 @@ pub struct Tally {
     pub refusals: u64,
     /// How often a call of a device that failed stopped one.
     pub stops: u64,
-    /// How often one was opened again, synced before or behind a crash.
+    /// How often one was opened again, synced before or after a crash.
     pub openings: u64,
     /// How many went wrong.
     pub wedged: u64,

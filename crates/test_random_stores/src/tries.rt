@@ -38,7 +38,7 @@ const TRIES: [(u32, u16, u32, u32, u32); 12] = [
 /// The rows of the store of which each is replaced by another.
 const REPLACED: u32 = 45_000;
 
-/// At about so many rows a store is filled enough.
+/// At about this number of rows a store is filled enough.
 const MOST: u32 = 65_500;
 
 /// The number of the key of a turn: scattered over all numbers.
@@ -46,7 +46,7 @@ fn scattered(turn: u32) -> u32 {
     turn.wrapping_mul(40_503) % 65_536
 }
 
-/// The puts of the next batch, behind so many rows.
+/// The puts of the next batch, after `rows` rows.
 fn next_puts(alloc: Global, it: Try, rows: u32) -> Result<Vec<Deed>, AllocError> {
     let mut deeds = Vec::new(alloc);
     for i in 0..it.batch {
@@ -104,7 +104,7 @@ fn run<R: AllocGlobal>(rt: &R, it: Try) -> Result<Course, Trouble> {
     fill_twice(&mut subject, it)
 }
 
-/// Puts rows, and replaces them one by one, for so many turns.
+/// Puts rows, and replaces them one by one, for `turns` turns.
 fn replace_each(subject: &mut Subject, turns: u32) -> Result<Course, Trouble> {
     for i in 0..REPLACED {
         subject.make(scattered(i), Some(8))?;
@@ -122,7 +122,7 @@ fn replace<R: AllocGlobal>(rt: &R, turns: u32) -> Result<Course, Trouble> {
     replace_each(&mut subject, turns)
 }
 
-/// Puts a value under so many keys, which lie so far from each other, until there is no room.
+/// Puts a value under `count` keys, `apart` from each other by number, until there is no room.
 fn put_each(subject: &mut Subject, keys: (u32, u32, u32), value: u32) -> Result<(), Trouble> {
     let (first, apart, count) = keys;
     for i in 0..count {
@@ -154,7 +154,7 @@ fn between<R: AllocGlobal>(rt: &R) -> Result<Course, Trouble> {
     put_between(&mut subject)
 }
 
-/// Leads the stores that were once stuck the same way again, and replaces rows of one of them for so many turns. With no turn it does
+/// Leads the stores that were once stuck the same way again, and replaces rows of one of them for `turns` turns. With no turn it does
 /// nothing. They are counted from 0 where they stand for seeds.
 pub fn try_all<R: AllocGlobal>(rt: &R, turns: u32, tally: &mut Tally) {
     if turns == 0 {

@@ -22,7 +22,7 @@ pub enum Trouble {
     Guards,
     /// A call that is to be refused was answered, or refused otherwise.
     Wrong,
-    /// A crash left so many batches: fewer than were synced, or more than there were.
+    /// A crash left this number of batches: fewer than were synced, or more than there were.
     Left(u64),
     /// Tables were left above the last level.
     Compaction,
