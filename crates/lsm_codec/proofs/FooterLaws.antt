@@ -65,7 +65,7 @@ module _ (block : List ℕ) (size : length block ≡ 4096) where
 fields_fit : (f : Summary) → IsSummary f → FieldsFit f
 fields_fit f is = record { number = omega (arith, is.number); data_blocks = omega (arith, is.blocks_high); entries = omega (arith, is.entries_high); index_len = omega (arith, is.index_high); first = is.first }
 
--- the zeros behind a footer's text
+-- the zeros after a footer's text
 abbrev pad : ℕ → List ℕ
 pad size = replicate (4096 - size) 0
 

@@ -71,7 +71,7 @@ index_format count = decodes-format (index_of_exact count)
 -- ---- what the reader of blocks finds
 
 module _ (count : ℕ) (bytes : List ℕ) (fits : IsBytes bytes) where
-  -- the bytes behind what was read are bytes of the blocks
+  -- the bytes after what was read are bytes of the blocks
   pub rest_shorter : (es : List Edge) (rest : List ℕ) → times count edge_at bytes ≡ Some (es, rest) → length rest ≤ length bytes
   rest_shorter es rest read = let law = (index_reads count).found bytes (es, rest) fits read in omega (arith, ap length law.1, length-append (index_text es) rest)
 

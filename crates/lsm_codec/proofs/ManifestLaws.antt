@@ -209,7 +209,7 @@ manifest_format version = decodes-format (manifest_of_exact version)
 -- ---- what the reader of whole sectors finds
 
 module _ (version : FormatVersion) (bytes : List ℕ) (fits : IsBytes bytes) where
-  -- the bytes behind what was read are bytes of the sectors
+  -- the bytes after what was read are bytes of the sectors
   pub rest_shorter : (c : Contents) (rest : List ℕ) → manifest_at version bytes ≡ Some (c, rest) → length rest ≤ length bytes
   rest_shorter c rest read = let law = (manifest_reads version).found bytes (c, rest) fits read in omega (arith, ap length law.1, length-append (manifest_text c) rest)
 

@@ -11,7 +11,7 @@ use Rattle.lsm_codec.proofs.Readers.{Reads, Reader}
 pub length-in_sectors : (text : List ℕ) → length (in_sectors text) ≡ 512 * div_ceil (length text) 512
 length-in_sectors text = omega (arith, length-append text (padding (length text)), length-replicate {A = ℕ} ((512 - length text % 512) % 512) 0)
 
--- a text with what fills it up behind it is read
+-- a text followed by its padding is read
 module _ {A : Type 0} {read : Reader A} {Fields Fits : A → Type 0} {spell : A → List ℕ} (one : Reads read Fields spell) (pad : ℕ → List ℕ) (narrow : (x : A) → Fits x → Fields x) (bytes : List ℕ) (fits : IsBytes bytes) where
   reads_again : (y : A) → Fits y → bytes ≡ spell y ++ pad (length (spell y)) → read bytes ≡ Some (y, pad (length (spell y)))
   reads_again y fy e = ap read e ∙ one.again y (pad (length (spell y))) (narrow y fy)

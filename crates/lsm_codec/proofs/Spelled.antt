@@ -74,7 +74,7 @@ recounted text os o is =
 
 -- ---- one operation after another
 
--- behind the count the operations are read
+-- after the count the operations are read
 pub behind_count : (text : List ℕ) (os : List Operation) → IsBatch os → text ≡ batch_text os → times (length os) operation_at (drop 2 text) ≡ Some (os, [])
 unfolding batch_text
 behind_count text os fits is =
@@ -102,7 +102,7 @@ next_of n text o read is =
     let law = first_of o.0 (times n operation_at o.1) (sym (ap is_some step) ∙ is) in
     (law.0, ap (λ (r : Option (List Operation × List ℕ)). operations_in (front_of r)) step ∙ law.1)
 
--- Where operations are left, the first is read, and the others are left behind it.
+-- Where operations are left, the first is read, and the others are left after it.
 pub next_left : (count : ℕ) (text : List ℕ) (o : Operation × List ℕ) → 0 < count → operation_at text ≡ Some o → is_some (times count operation_at text) ≡ true
     → (is_some (times (count - 1) operation_at o.1) ≡ true) × (operations_left count text ≡ o.0 ∷ operations_left (count - 1) o.1)
 next_left count text o some read is =

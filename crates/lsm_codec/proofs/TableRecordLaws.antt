@@ -92,7 +92,7 @@ unfolding numbers_at
 numbers_full bytes le =
     rw (there 0 8 bytes (omega (arith, le)), byte_there 8 bytes (omega (arith, le)), byte_there 9 bytes (omega (arith, le)), there 10 4 bytes (omega (arith, le)), byte_there 14 bytes (omega (arith, le)), byte_there 15 bytes (omega (arith, le)), there 16 2 bytes (omega (arith, le)), from_place 18 bytes) refl
 
--- what is made of numbers, and of the deletes behind them
+-- what is made of numbers, and of the deletes after them
 abbrev with_deletes : Numbers → Option (Option ℕ × List ℕ) → Option (TableRecord × List ℕ)
 with_deletes n None = None
 with_deletes n (Some d) = Some (made_record (n, d.0), d.1)
@@ -115,12 +115,12 @@ record_read : (version : FormatVersion) (bytes : List ℕ) → 18 ≤ length byt
 unfolding table_record_at
 record_read version bytes le = ap (then_record version) (numbers_full bytes le) ∙ by_deletes (numbers_there bytes) (deletes_at version (mid_of 18 (length bytes - 18) bytes))
 
--- a record in full is read, its numbers at their places, and the deletes behind them
+-- a record in full is read, its numbers at their places, and the deletes after them
 pub table_at : (version : FormatVersion) (bytes : List ℕ) (deletes : Option ℕ) (rest : List ℕ) → 18 ≤ length bytes → deletes_at version (mid_of 18 (length bytes - 18) bytes) ≡ Some (deletes, rest)
     → table_record_at version bytes ≡ Some (record { number = field 0 8 bytes; level = get_or bytes 8 0; run = get_or bytes 9 0; first_block = field 10 4 bytes; data_blocks = get_or bytes 14 0; index_blocks = get_or bytes 15 0; entries = field 16 2 bytes; deletes = deletes }, rest)
 table_at version bytes deletes rest le behind = record_read version bytes le ∙ ap (with_deletes (numbers_there bytes)) behind
 
--- none is read where the deletes aren't there
+-- no record is read where the deletes are missing
 pub no_deletes : (version : FormatVersion) (bytes : List ℕ) → 18 ≤ length bytes → deletes_at version (mid_of 18 (length bytes - 18) bytes) ≡ None → table_record_at version bytes ≡ None
 no_deletes version bytes le behind = record_read version bytes le ∙ ap (with_deletes (numbers_there bytes)) behind
 

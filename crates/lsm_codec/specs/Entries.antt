@@ -73,16 +73,16 @@ entry_at = made (λ p. record { key = p.0; number = p.1.0; value = p.1.1 }) (bot
 abbrev pub are_zeros : List ℕ → Bool
 are_zeros bytes = list_all (λ b. b == 0) bytes
 
--- entry after entry, so many and then zeros; bytes that are none are BadTable, which ends it
+-- n entries and then zeros; at the first bytes that are neither comes BadTable, which ends the list
 unfoldable pub entries_from : ℕ → List ℕ → List (Result Version Refusal)
 entries_from zero bytes = if are_zeros bytes then [] else Err BadTable ∷ []
 entries_from (suc n) bytes = elim (entry_at bytes) as (λ _. List (Result Version Refusal)) [ None ↦ Err BadTable ∷ [] | Some x ↦ Ok x.0 ∷ entries_from n x.1 ]
 
--- the entries of a block one after the other, as far as it spells some
+-- the entries of a block, in order; at the first invalid bytes comes BadTable, which ends the list
 unfoldable pub entries_in : List ℕ → List (Result Version Refusal)
 entries_in bytes = elim (number_at 2 bytes) as (λ _. List (Result Version Refusal)) [ None ↦ Err BadTable ∷ [] | Some x ↦ if x.0 == 0 then Err BadTable ∷ [] else entries_from x.0 x.1 ]
 
--- the values, where none is a refusal
+-- the values, if there is no refusal among them
 abbrev pub all_ok : {X : Type 0} → List (Result X Refusal) → Option (List X)
 all_ok [] = Some []
 all_ok (Ok x ∷ rest) = option_map (λ xs. x ∷ xs) (all_ok rest)

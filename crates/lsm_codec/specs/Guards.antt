@@ -1,4 +1,4 @@
--- Conditions on a map, which guards ask.
+-- Conditions on a map: what guards compare.
 use Rattle.std.specs.Prelude.{Bool, true, false, Option, Some, None}
 use Rattle.std.specs.FinMap as finite
 use Rattle.lsm_codec.specs.Keys.{Bytes}
@@ -10,7 +10,7 @@ pub record Condition : Type 0 where
   pub key : Bytes
   pub value : Option Bytes
 
--- whether two values are the same, where no value is one of its own
+-- whether two values are the same, or both are absent
 abbrev pub is_same_value : Option Bytes → Option Bytes → Bool
 is_same_value None None = true
 is_same_value (Some a) (Some b) = is_same_key a b

@@ -12,15 +12,15 @@ use Rattle.lsm_codec.specs.declared.table_record.TableRecord.{TableRecord}
 abbrev pub extent_blocks : TableRecord → ℕ
 extent_blocks t = t.data_blocks + t.index_blocks + 2
 
--- the block behind a table's extent
+-- the block after a table's extent
 abbrev pub extent_end : TableRecord → ℕ
 extent_end t = t.first_block + extent_blocks t
 
--- how many runs a level has: level 0 so many, every other one
+-- how many runs a level has: level 0 has `runs`, every other level one
 abbrev pub runs_in : ℕ → ℕ → ℕ
 runs_in runs level = if level == 0 then runs else 1
 
--- how many blocks and entries a table has, and how many of the entries are deletes, where that is told
+-- how many blocks and entries a table has, and how many of the entries are deletes, where that is recorded
 pub record HasSizes (t : TableRecord) : Type 0 where
   pub data_low : 1 ≤ t.data_blocks
   pub data_high : t.data_blocks ≤ 64
@@ -30,7 +30,7 @@ pub record HasSizes (t : TableRecord) : Type 0 where
   pub entries_high : t.entries ≤ 3200
   pub deletes : IfSome t.deletes (λ deletes. deletes ≤ t.entries)
 
--- the limits of a table record, where the next table has this number and level 0 so many runs
+-- the limits of a table record, where the next table has this number and level 0 has `runs` runs
 pub record IsTableRecord (next runs : ℕ) (t : TableRecord) : Type 0 where
   pub number : t.number < next
   pub level : t.level ≤ 4
@@ -38,7 +38,7 @@ pub record IsTableRecord (next runs : ℕ) (t : TableRecord) : Type 0 where
   pub sizes : HasSizes t
   pub inside : extent_end t ≤ 2 ^ 32
 
--- whether records tell how many deletes there are: in version 2 each does, in version 1 none
+-- whether records say how many deletes there are: in version 2 each does, in version 1 none
 abbrev pub tells_deletes : FormatVersion → Bool
 tells_deletes One = false
 tells_deletes Two = true
@@ -47,7 +47,7 @@ tells_deletes Two = true
 abbrev pub IsOfVersion : FormatVersion → TableRecord → Type 0
 IsOfVersion version t = is_some t.deletes ≡ tells_deletes version
 
--- records stand by level, then run
+-- records are ordered by level, then run
 abbrev pub InOrder : TableRecord → TableRecord → Type 0
 InOrder a b = (a.level < b.level) ⊎ ((a.level ≡ b.level) × (a.run ≤ b.run))
 
@@ -110,7 +110,7 @@ has_runs (suc n) tables = has_run tables n && has_runs n tables
 
 -- ---- text
 
--- two bytes, or none where the record doesn't tell
+-- two bytes, or none where the record doesn't say how many
 abbrev pub deletes_text : Option ℕ → List ℕ
 deletes_text None = []
 deletes_text (Some deletes) = big_bytes 2 deletes
@@ -119,7 +119,7 @@ deletes_text (Some deletes) = big_bytes 2 deletes
 abbrev pub numbers_text : TableRecord → List ℕ
 numbers_text t = big_bytes 8 t.number ++ (big_bytes 1 t.level ++ (big_bytes 1 t.run ++ (big_bytes 4 t.first_block ++ (big_bytes 1 t.data_blocks ++ (big_bytes 1 t.index_blocks ++ big_bytes 2 t.entries)))))
 
--- the text of a table record: 18 bytes, or 20 where it tells the deletes
+-- the text of a table record: 18 bytes, or 20 with the deletes
 abbrev pub table_record : TableRecord → List ℕ
 table_record t = numbers_text t ++ deletes_text t.deletes
 

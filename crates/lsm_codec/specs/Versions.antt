@@ -59,7 +59,7 @@ pub record IsEntry (v : Version) : Type 0 where
   pub number_high : v.number ≤ 2 ^ 63
   pub value : value_length v.value ≤ 2048
 
--- the version that bytes hold beside each other: the key, and behind it the value, where there is one
+-- the version that bytes hold: the key, and right after it the value, where there is one
 abbrev pub version_in : Bytes → ℕ → ℕ → Bool → Version
 version_in bytes key_len number has_value = record { key = take key_len bytes; number = number; value = if has_value then Some (drop key_len bytes) else None }
 

@@ -51,7 +51,7 @@ impl<A: Allocator> Guard<A> {
         Ok(Guard { key, value: None })
     }
 
-    /// The key that is asked for.
+    /// The key whose value is compared.
     pub fn key(&self) -> &[u8]
         ensures same { result.now ≡ self.now.key }
         ensures fits { IsKey self.now.key }
@@ -59,7 +59,7 @@ impl<A: Allocator> Guard<A> {
         self.key.as_slice()
     }
 
-    /// The value that it is to have, or none where it is to have none.
+    /// The value that the key must have, or `None` where it must have none.
     pub fn value(&self) -> Option<&[u8]>
         ensures same { option_map (λ v. v.now) result ≡ self.now.value }
         ensures fits { IfSome result (λ v. IsValue v.now) }
@@ -70,7 +70,7 @@ impl<A: Allocator> Guard<A> {
         }
     }
 
-    /// Whether it is true of a key with this value, or with none.
+    /// Whether the guard holds where its key has this value, or none.
     pub fn is_met_by(&self, value: Option<&[u8]>) -> bool
         ensures { result ≡ is_same_value (option_map (λ v. v.now) value.entry) self.now.value }
     {

@@ -126,7 +126,7 @@ impl<A: Allocator + Clone> Index<A> {
         Ok(blocks)
     }
 
-    /// The index of so many data blocks that the bytes of blocks spell, if they spell one. Want of memory is `NoMemory`.
+    /// The index of `count` data blocks that the bytes of blocks spell, if they spell one. Want of memory is `NoMemory`.
     pub fn decode(alloc: A, count: usize, blocks: &[u8]) -> Result<Option<Index<A>>, Refusal>
         ensures answer { UnlessNoMemory result (λ index. index ≡ index_of count blocks.now) }
         ensures exact { IsDecoded (IsIndex count) index_blocks blocks.now (index_of count blocks.now) }

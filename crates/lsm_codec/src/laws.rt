@@ -30,7 +30,7 @@ pub fn data_block_laws()
     ensures { DataBlockLaws }
 {}
 
-/// Each index of so many data blocks within the limits has one spelling, in the fewest blocks that hold it, and an edge
+/// Each index of n data blocks within the limits has one spelling, in the fewest blocks that hold it, and an edge
 /// takes 10 to 264 bytes of it.
 pub fn index_laws()
     ensures { IndexLaws }

@@ -68,7 +68,7 @@ impl<A: Allocator> Manifest<A> {
             .all(|table| table.is_of_version(version))
     }
 
-    /// Whether the numbers and records are within the limits and in order, and the tables lie apart.
+    /// Whether the numbers and records are within the limits and in order, and no two tables overlap.
     pub fn is_within_limits(&self) -> bool
         ensures { IsTrue result ↔ IsManifest self.now }
     {

@@ -32,7 +32,7 @@ impl<'a> Model for Operations<'a> {
 }
 
 impl<'a> Operations<'a> {
-    /// So many operations, whose texts stand at the front of the bytes.
+    /// The `left` operations whose texts are at the front of the bytes.
     pub(crate) fn new(left: u16, text: &'a [u8]) -> Operations<'a>
         requires { is_some (times left operation_at text.now) ≡ true }
         ensures { result ≡ operations_left left text.now }

@@ -18,7 +18,7 @@ const NUMBERS_BYTES: usize = 18;
 /// The bytes of a record's text at most.
 const MOST_BYTES: usize = 20;
 
-/// A table that stands, and where.
+/// A table of the manifest, and where it is.
 #[derive(Clone, Copy, Debug, PartialEq, Eq)]
 pub struct TableRecord {
     /// Below the manifest's next one.
@@ -35,11 +35,11 @@ pub struct TableRecord {
     pub index_blocks: u8,
     /// From 1 to 3,200.
     pub entries: u16,
-    /// How many of the entries are deletes. Version 1 of the format doesn't tell it.
+    /// How many of the entries are deletes. Version 1 of the format doesn't record it.
     pub deletes: Option<u16>,
 }
 
-/// The deletes at the front of the bytes, where a record of this version tells them, and the bytes after them.
+/// The deletes at the front of the bytes, where a record of this version has them, and the bytes after them.
 fn deletes_at(version: FormatVersion, bytes: &[u8]) -> Option<(Option<u16>, &[u8])>
     ensures { Lends (λ x. (x.0, x.1.now)) result (deletes_at version bytes.now) }
 {
@@ -54,7 +54,7 @@ fn deletes_at(version: FormatVersion, bytes: &[u8]) -> Option<(Option<u16>, &[u8
     }
 }
 
-/// Writes the deletes at the end, where they are told.
+/// Writes the deletes at the end, where they are recorded.
 fn put_deletes(text: &mut Filled<MOST_BYTES>, deletes: Option<u16>)
     requires { length text.old + 2 ≤ 20 }
     ensures { text.new ≡ text.old ++ deletes_text deletes }
@@ -108,7 +108,7 @@ impl<A: Allocator> Record<A> for TableRecord {
     }
 }
 
-/// How many runs a level has: level 0 so many, every other one.
+/// How many runs a level has: level 0 has `runs`, every other level one.
 fn runs_in(runs: u8, level: u8) -> u8
     ensures { result ≡ runs_in runs level }
 {
@@ -123,7 +123,7 @@ impl TableRecord {
         self.data_blocks as u32 + self.index_blocks as u32 + 2
     }
 
-    /// The block behind the extent.
+    /// The block after the extent.
     fn extent_end(&self) -> u64
         ensures { result ≡ extent_end self.now }
     {
@@ -151,7 +151,7 @@ impl TableRecord {
         }
     }
 
-    /// Whether the deletes are at most the entries, where they are told.
+    /// Whether the deletes are at most the entries, where they are recorded.
     fn has_deletes_among(&self) -> bool
         ensures { IsTrue result ↔ IfSome self.now.deletes (λ deletes. deletes ≤ self.now.entries) }
     {
@@ -170,7 +170,7 @@ impl TableRecord {
             && self.has_deletes_among()
     }
 
-    /// Whether the record is within its own limits, where the next table has this number and level 0 so many runs.
+    /// Whether the record is within its own limits, where the next table has this number and level 0 has `runs` runs.
     pub(crate) fn is_within_limits(&self, next_table: u64, runs: u8) -> bool
         ensures { IsTrue result ↔ IsTableRecord next_table runs self.now }
     {

@@ -78,7 +78,7 @@ pieces-more (suc i) bytes =
     ∙ ap (λ (l : List (List ℕ)). take 512 bytes ∷ l) (pieces-more i (drop 512 bytes))
     ∙ ap (λ (l : List ℕ). take 512 bytes ∷ (pieces i (drop 512 bytes) ++ take 512 l ∷ [])) (drop-drop (512 * i) 512 bytes ∙ ap (λ (k : ℕ). drop k bytes) next)
 
--- a sector more is laid behind those that were
+-- a sector more is put after the others
 pub one_more_laid : (i n : ℕ) (run bytes : List ℕ) (k : ℕ) (laid : List (List ℕ)) → i < n → length run ≡ 512 * n → length bytes ≡ 512 → pieces i run ≡ laid → pieces (i + 1) (put_mid (512 * i) k run bytes) ≡ laid ++ bytes ∷ []
 one_more_laid i n run bytes k laid below long whole so_far =
     let room : 512 * i ≤ length run = omega (arith, long, below) in

@@ -23,11 +23,11 @@ all_writes i n old new low high so_far =
     let all : i ≡ n = omega arith in
     so_far ∙ ap (λ (k : ℕ). after_writes k old) all
 
--- the read that faulted after so many
+-- the read that faulted after i that answered Ok
 pub read_faulted : (i n : ℕ) (old mid new : Calls) → i < n → new ≡ after_read false mid → mid ≡ after_reads i old → ReadFaultsAmong n old new
 read_faulted i n old mid new lt next so_far = record { before = i; fewer = lt; counted = next ∙ ap (after_read false) so_far }
 
--- the write that faulted after so many
+-- the write that faulted after i that answered Ok
 pub write_faulted : (i n : ℕ) (old mid new : Calls) → i < n → new ≡ after_write false mid → mid ≡ after_writes i old → WriteFaultsAmong n old new
 write_faulted i n old mid new lt next so_far = record { before = i; fewer = lt; counted = next ∙ ap (after_write false) so_far }
 
@@ -84,7 +84,7 @@ faults_kept : (n : ℕ) (c : Calls) → (after_writes n c).faults ≡ c.faults
 faults_kept zero c = refl
 faults_kept (suc n) c = faults_kept n c
 
--- some writes behind others
+-- n writes after k others
 writes_behind : (n k : ℕ) (c : Calls) → after_writes n (after_writes k c) ≡ after_writes (n + k) c
 writes_behind zero k c =
     let none : k ≡ 0 + k = omega arith in
@@ -97,7 +97,7 @@ pub writes_joined : (k n total : ℕ) (old mid new : Calls) → n + k ≡ total 
 writes_joined k n total old mid new all first second =
     second ∙ ap (after_writes n) first ∙ writes_behind n k old ∙ ap (λ (m : ℕ). after_writes m old) all
 
--- one that faulted behind others
+-- a fault among n writes after k others
 pub faulted_behind : (k n total : ℕ) (old mid new : Calls) → n + k ≤ total → mid ≡ after_writes k old → WriteFaultsAmong n mid new → WriteFaultsAmong total old new
 faulted_behind k n total old mid new within first f = record {
   before = f.before + k;
@@ -105,7 +105,7 @@ faulted_behind k n total old mid new within first f = record {
   counted = f.counted ∙ ap (after_write false) (ap (after_writes f.before) first ∙ writes_behind f.before k old);
 }
 
--- What so many writes that answered Ok make: no read, no sync, no fault.
+-- What n writes that answered Ok make: no read, no sync, no fault.
 pub record WritesMade (n : ℕ) (old new : Calls) : Type 0 where
   pub no_read : new.reads ≡ old.reads
   pub written : new.writes ≡ more n old.writes
@@ -126,7 +126,7 @@ writes_are n old new is =
       at_most = record { read = (0, omega arith, read); written = (n, omega arith, written); synced = (0, omega arith, synced) };
     }
 
--- What a run of writes makes of which one faulted: at most so many writes, with one fault, the last.
+-- What a run of writes makes of which one faulted: at most n writes, with one fault, the last.
 pub record WritesFault (n : ℕ) (old new : Calls) : Type 0 where
   pub at_most : AtMost 0 n 0 old new
   pub one_fault : new.faults ≡ one_more old.faults

@@ -1,4 +1,4 @@
--- What a run of writes makes, told by a number of sectors that is known.
+-- What a run of writes makes, given the number of its sectors.
 use Rattle.std.proofs.Common.{◌≡◌, ℕ, ◌*◌, ◌/◌, List, length, ◌∙◌, ap, subst}
 use Rattle.lsm_device.specs.declared.calls.Calls.{Calls}
 use Rattle.lsm_device.specs.Calls.{after_writes, WriteFaultsAmong}

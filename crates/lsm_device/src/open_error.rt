@@ -13,7 +13,7 @@ pub enum OpenError {
     NotAFile,
     /// Its length is not a whole number of sectors.
     Uneven,
-    /// It has more sectors than have numbers of 32 bits.
+    /// It has more than 2^32 - 1 sectors.
     TooLarge,
     /// There was no memory for the name of the new file.
     NoMemory,

@@ -1,4 +1,4 @@
-//! Files that are opened for a device alone.
+//! Opens and locks files for devices.
 
 use crate::OpenError;
 use std::fs::{File, Files, Metadata, OpenOptions, TryLockError};
@@ -13,15 +13,15 @@ pub(crate) const SECTOR_BYTES: u64 = 512;
 /// The least descriptor that a device keeps. Those below are the standard streams: what is printed may go to them.
 const LEAST_DESCRIPTOR: i32 = 3;
 
-/// Opens a regular file or a block device, which nobody waits for, and takes its lock.
+/// Opens a regular file or a block device, and takes its lock, without waiting.
 pub(crate) fn open_locked<R: Files<File = File>>(
     files: &R,
     path: &str,
     how: &OpenOptions,
     is_shared: bool,
 ) -> Result<File, OpenError> {
-    // Opening a FIFO may wait for its other end, so its kind is asked before; and once more behind, since another file may have
-    // come to its place.
+    // Opening a FIFO may wait for its other end, so its kind is checked before; and once more after, since another file may have
+    // taken its place.
     if let Ok(metadata) = fs::metadata(files, path) {
         check_kind(&metadata)?;
     }
@@ -29,7 +29,7 @@ pub(crate) fn open_locked<R: Files<File = File>>(
     locked(files, path, file, is_shared)
 }
 
-/// Makes a file that is not there yet, and takes its lock. Where the lock can't be had for another cause than that another one has
+/// Makes a new file, and takes its lock. Where the system refuses a call for the lock, other than because somebody else has
 /// it, the file is removed.
 pub(crate) fn make_locked<R: Files<File = File>>(files: &R, path: &str) -> Result<File, OpenError> {
     let mut how = OpenOptions::new();
@@ -56,7 +56,7 @@ fn locked<R: Files<File = File>>(
     Ok(file)
 }
 
-/// The same file, by a descriptor that is none of a standard stream's.
+/// The same file, by a descriptor that is not a standard stream's.
 fn above_streams(file: File) -> Result<File, OpenError> {
     if file.as_raw_fd() >= LEAST_DESCRIPTOR {
         return Ok(file);
@@ -76,7 +76,7 @@ fn check_kind(metadata: &Metadata) -> Result<(), OpenError> {
     Err(OpenError::NotAFile)
 }
 
-/// Takes a file for one device alone, or for readers alone, until it is closed.
+/// Locks a file until it is closed: exclusively for one device, or shared by readers.
 fn lock(file: &File, is_shared: bool) -> Result<(), OpenError> {
     let locked = if is_shared {
         file.try_lock_shared()
@@ -90,7 +90,7 @@ fn lock(file: &File, is_shared: bool) -> Result<(), OpenError> {
     }
 }
 
-/// Before the lock was there another process, which had it, may have put a new file in the place of this one, or removed it. Nobody
+/// Checks that the path still names the open file: before the lock was taken another process may have replaced or removed it. Nobody
 /// would find again what is written to such a file.
 fn check_name<R: Files<File = File>>(files: &R, path: &str, file: &File) -> Result<(), OpenError> {
     let opened = file.metadata().map_err(OpenError::Failed)?;
@@ -104,7 +104,7 @@ fn check_name<R: Files<File = File>>(files: &R, path: &str, file: &File) -> Resu
 
 /// How many sectors a file has.
 pub(crate) fn sectors_of(file: &mut File) -> Result<u32, OpenError> {
-    // A block device tells no length, but where its end is.
+    // The metadata of a block device has no length, so the end is sought.
     let bytes = file.seek(SeekFrom::End(0)).map_err(OpenError::Failed)?;
     if bytes % SECTOR_BYTES != 0 {
         return Err(OpenError::Uneven);
@@ -115,7 +115,7 @@ pub(crate) fn sectors_of(file: &mut File) -> Result<u32, OpenError> {
     }
 }
 
-/// Syncs the folder in which a file stands, and with it the file's name.
+/// Syncs the folder that holds a file, and with it the file's name.
 pub(crate) fn sync_folder<R: Files<File = File>>(files: &R, path: &str) -> io::Result<()> {
     let folder = match Path::new(path).parent() {
         Some(parent) if !parent.as_str().is_empty() => parent.as_str(),

@@ -13,7 +13,7 @@ use std::{fs, io};
 /// What the name of a new file ends with until it takes its place.
 const SUFFIX: &str = ".corwaphi-new";
 
-/// What has the place until the new file is whole, with its lock: the old file, or an empty one where there was none, so that
+/// What holds the path until the new file is whole, with its lock: the old file, or an empty one where there was none, so that
 /// nobody else makes a file there meanwhile.
 #[derive(Drop)]
 struct Holder {
@@ -21,21 +21,21 @@ struct Holder {
     is_new: bool,
 }
 
-/// The place that a new file is to take, and what has it until then.
+/// The path that a new file is to take, and what holds it until then.
 #[derive(Drop)]
 pub struct Replacement {
     // None for a block device.
     holder: Option<Holder>,
     place: String,
-    // The name of the new file; none for a block device, which is made where it is.
+    // The name of the new file; `None` for a block device, which is made in place.
     beside: Option<String>,
 }
 
 impl FileDevice {
-    /// Makes a file of zero sectors beside the one whose place it will take, in the same folder, and syncs it. The old file, if there is
+    /// Makes a file of zero sectors next to the one that it will replace, in the same folder, and syncs it. The old file, if there is
     /// one, stays as it is, and nobody else gets it meanwhile; where there is none, an empty one keeps the place. [`Replacement::finish`]
     /// puts the new file in its place, and [`Replacement::give_up`] removes it. Where it can't be made nothing is left of it. A block
-    /// device has no file beside it: it is made at once, where it is.
+    /// device has no file next to it: it is made at once, in place.
     ///
     /// A symbolic link is followed. The new file has the permissions of the old one; it has the owner of a new file, and other hard
     /// links to the old file keep what they had. What a killed process left of such a new file is removed by the next one; the empty
@@ -148,7 +148,7 @@ impl Replacement {
     }
 }
 
-// Where a path leads: to the file behind symbolic links, if there is one.
+// The path with symbolic links followed, where the file exists; else the path itself.
 fn place_of<R: Files<File = File> + AllocGlobal>(rt: &R, path: &str) -> Result<String, OpenError> {
     let found = fs::canonicalize(rt, path);
     match found {
@@ -208,7 +208,7 @@ fn created<R: Files<File = File>>(
     made
 }
 
-// Makes a file that was not there, and takes its lock. One that is there is what a killed process left, unless another one has its lock.
+// Makes a new file, and takes its lock. One that exists is what a killed process left, unless another one has its lock.
 fn new_file<R: Files<File = File>>(files: &R, beside: &str) -> Result<File, OpenError> {
     match make_locked(files, beside) {
         Err(OpenError::Failed(error)) if error.kind() == ErrorKind::AlreadyExists => {

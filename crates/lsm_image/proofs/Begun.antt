@@ -122,7 +122,7 @@ module _ (base : List (List ℕ)) (laid made : List Laid) (standing : ℕ) (is :
     pub more_pushed : history_of first (map made_of (made ++ new ∷ [])) ≡ appended (record { at = at; bytes = bytes }) now_disk ∷ history_of first (map made_of made)
     more_pushed = ap (history_of first) same_made ∙ pushed first (now_of base laid made) (map made_of made) standing all at bytes in_first whole
 
--- ---- all writes stand
+-- ---- all writes are durable
 
 module _ (base : List (List ℕ)) (laid made : List Laid) (standing : ℕ) (all : GoTogether (image_of base laid) (now_of base laid made) (map made_of made) standing) (n : ℕ) (counts : n + 1 ≡ length made)
     (waits : standing < length made) (m : Laid) (is_last : m ≡ get_or made n m) where

@@ -1,4 +1,4 @@
--- Writes that lie over sectors.
+-- Writes made on the sectors of an image.
 use Rattle.std.specs.Prelude.{◌<◌, ◌^◌, ℕ, List, [], ◌∷◌, ◌==◌, All, length, map, Option, Some, if◌then◌else◌}
 use Rattle.lsm_device.specs.declared.made.Made.{Made}
 use Rattle.lsm_device.specs.Disk.{Write, IsSector, IsWrite, written}
@@ -11,11 +11,11 @@ write_of w = record { at = w.at; bytes = w.bytes }
 abbrev pub made_of : Laid → Made
 made_of w = record { at = w.at; bytes = w.bytes; sync_followed = w.sync_followed }
 
--- the sectors that these become with the writes over them
+-- the sectors once the writes are made on them
 abbrev pub image_of : List (List ℕ) → List Laid → List (List ℕ)
 image_of base laid = written base (map write_of laid)
 
--- and with those over them that were made since
+-- and once the writes made since are too
 abbrev pub now_of : List (List ℕ) → List Laid → List Laid → List (List ℕ)
 now_of base laid made = written (image_of base laid) (map write_of made)
 
@@ -25,7 +25,7 @@ pub record IsImage (base : List (List ℕ)) (laid : List Laid) : Type 0 where
   pub base_whole : All IsSector base
   pub laid_whole : All (IsWrite (length base)) (map write_of laid)
 
--- what a sector holds after these writes, that held this before them
+-- what a sector holds after these writes, where it held `before` before them
 abbrev pub newest : Option (List ℕ) → List Write → ℕ → Option (List ℕ)
 newest before [] at = before
 newest before (w ∷ ws) at = newest (if w.at == at then Some w.bytes else before) ws at

@@ -12,7 +12,7 @@ use Rattle.lsm_image.specs.Laid.{made_of, image_of, IsImage, write_of as laid_wr
 use Rattle.lsm_image.specs.declared.laid.Laid.{Laid}
 use Rattle.lsm_image.specs.declared.device.ImageDevice.{ImageDevice}
 
--- of a device in memory with a fuse, where one is given, that no crash ended a life of
+-- of a device in memory that has never crashed, with a fuse where one is given
 abbrev pub lasting_with : Option ℕ → Lasting
 lasting_with fuse = record { tells = true; fuse_set = fuse; failure_set = None; times_set = 0; ended = [] }
 
@@ -20,7 +20,7 @@ lasting_with fuse = record { tells = true; fuse_set = fuse; failure_set = None; 
 abbrev pub begun : List (List ℕ) → Option ℕ → Medium
 begun sectors fuse = record { size = length sectors; lasting = lasting_with fuse; calls = no_calls; history = at_rest sectors ∷ [] }
 
--- whether a write or a sync answers Ok where so many did
+-- whether a write or a sync answers Ok after `passed` that did
 abbrev pub passes : Option ℕ → ℕ → Bool
 passes None passed = true
 passes (Some fuse) passed = nat_lt passed fuse
@@ -32,7 +32,7 @@ goes_well m = passes m.lasting.fuse_set m.calls.passed
 abbrev pub medium_in : {A : Type 0} → ImageDevice A → Medium
 medium_in d = record { size = length d.base.now; lasting = lasting_with d.fuse; calls = d.calls; history = history_of (image_of d.base.now d.laid.items) (map made_of d.made.items) }
 
--- the sectors of an image are whole, and as many as those under it
+-- an image has as many sectors as its base, and they are whole
 pub length-image : (base : List (List ℕ)) (laid : List Laid) → length (image_of base laid) ≡ length base
 length-image base laid = length-written (length base) base (map laid_write laid) refl
 

@@ -91,7 +91,7 @@ impl<'a, A: Allocator> ImageDevice<'a, A> {
         true
     }
 
-    // Makes all pending writes stand.
+    // Makes all pending writes durable.
     fn settle(&mut self)
         ensures stands { Becomes (synced (disk (medium_in self.old))) (medium_in self.old).history (medium_in self.new).history }
         ensures same_size { (medium_in self.new).size ≡ (medium_in self.old).size }
@@ -106,7 +106,7 @@ impl<'a, A: Allocator> ImageDevice<'a, A> {
     }
 }
 
-// The answer of a call that went well or failed.
+// The result of a call: Ok if it succeeded, else a fault.
 fn answer(ok: bool) -> Result<(), Fault>
     ensures { is_ok result ≡ ok }
 {
@@ -141,7 +141,7 @@ impl<'a, A: Allocator> Device for ImageDevice<'a, A> {
         ensures same_size { (medium_in self.new).size ≡ (medium_in self.old).size }
         ensures same_lasting { (medium_in self.new).lasting ≡ (medium_in self.old).lasting }
 
-        // It answers Ok always.
+        // It always answers Ok.
         ensures answers { is_ok result ≡ true }
     {
         *out = self.base[at as usize];

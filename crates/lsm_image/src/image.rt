@@ -12,7 +12,7 @@ use lsm_device::{Calls, Device, Refusal};
 use std::alloc::{AllocError, Allocator, Global};
 use std::marker::Model;
 
-/// The sectors of a device as they read, one after another, by one read of each. It is refused with `NoMemory`, and with `Io` where
+/// The sectors of a device as they read, one after another, by one read of each. It fails with `NoMemory`, and with `Io` where
 /// a read failed, which was its last.
 pub fn sectors_of<A: Allocator, D: Device>(
     alloc: A,
@@ -39,7 +39,7 @@ pub fn sectors_of<A: Allocator, D: Device>(
     Ok(sectors)
 }
 
-/// The sectors that a crash left, kept as those that they differ from, and the writes that lie over these. Contracts see the
+/// The sectors that a crash left, kept as the sectors that they differ from, and the writes made on these. Contracts see the
 /// sectors. To copy one costs as much as the writes, however large the device is.
 #[derive(Drop)]
 pub struct Image<'a, A: Allocator = Global> {
@@ -71,7 +71,7 @@ impl<'a, A: Allocator + Clone> Image<'a, A> {
         }
     }
 
-    /// A device that holds the image, with nothing pending. With a fuse, so many of its writes and syncs answer Ok, and each
+    /// A device that holds the image, with nothing pending. With a fuse, this number of its writes and syncs answer Ok, and each
     /// later one faults; a write that it faults on pends.
     pub fn device(&self, alloc: A, fuse: Option<u64>) -> Result<ImageDevice<'a, A>, AllocError>
         ensures { IfOk result (λ device. medium_in device ≡ begun self.now fuse) }

@@ -1,4 +1,4 @@
-// Writes that lie over sectors.
+// Writes made on the sectors of an image.
 ghost use Rattle.std.specs.Prelude.{◌≡◌, ◌++◌, map, Some, false, slice_index_or, OnOk};
 ghost use Rattle.lsm_device.specs.Disk.{kept};
 ghost use Rattle.lsm_image.specs.Laid.{write_of, newest};

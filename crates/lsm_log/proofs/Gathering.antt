@@ -14,7 +14,7 @@ abbrev Batches : Type 0
 Batches = List (List Operation)
 
 module _ (epoch number part parts : ℕ) (text sector : List ℕ) (rest : List (List ℕ)) where
-  -- the batches that this sector and those behind it bring
+  -- the batches that are read from this sector and those after it
   abbrev here : Batches
   here = map_while batch_of (texts_from epoch number part parts text (map_while part_of (sector ∷ rest)))
 
@@ -53,7 +53,7 @@ module _ (epoch number part parts : ℕ) (text sector : List ℕ) (rest : List (
         whole : here ≡ cons_while (batch_of (text ++ p.payload)) (map_while batch_of (texts_from epoch (number + 1) 0 0 [] (map_while part_of rest)))
         whole = step ∙ ap (map_while batch_of) (cond-true (is_awaited epoch number part parts p) _ [] next ∙ cond-true (part + 1 == p.parts) _ _ test)
 
-        -- the batch's last part, and its text is no batch's
+        -- the batch's last part, and its text spells no batch
         pub ends_no_batch : (batches : Batches) → batch_of (text ++ p.payload) ≡ None → batches ≡ batches ++ map_while batch_of (texts_from epoch number part parts text (map_while part_of (sector ∷ rest)))
         ends_no_batch batches none = none_more batches here (whole ∙ ap (λ (o : Option (List Operation)). cons_while o (map_while batch_of (texts_from epoch (number + 1) 0 0 [] (map_while part_of rest)))) none)
 
@@ -69,7 +69,7 @@ module _ (epoch number part parts : ℕ) (text sector : List ℕ) (rest : List (
               counts ∙ cond-true (is_awaited epoch number part parts p) _ 0 next ∙ cond-true (part + 1 == p.parts) _ _ test
               ∙ ap (λ (o : Option (List Operation)). cond (is_some o) (1 + awaited_from epoch (number + 1) 0 0 [] (map_while part_of rest)) 0) is
 
-          -- the same of what was read, wherever it lies
+          -- the same of what was read, wherever it is
           pub taken_batch : (empty : List ℕ) (old new : Batches) → empty ≡ [] → new ≡ old ++ batch ∷ []
               → (new ++ map_while batch_of (texts_from epoch (number + 1) 0 0 empty (map_while part_of rest)) ≡ old ++ map_while batch_of (texts_from epoch number part parts text (map_while part_of (sector ∷ rest))))
               × (awaited_from epoch number part parts text (map_while part_of (sector ∷ rest)) ≡ 1 + awaited_from epoch (number + 1) 0 0 empty (map_while part_of rest))
@@ -95,7 +95,7 @@ module _ (epoch number part parts : ℕ) (text sector : List ℕ) (rest : List (
             counts ∙ cond-true (is_awaited epoch number part parts p) _ 0 next ∙ cond-false (part + 1 == p.parts) _ _ test_more
             ∙ ap (λ (n : ℕ). 1 + awaited_from epoch number (n + 1) p.parts (text ++ p.payload) (map_while part_of rest)) (sym place)
 
-        -- the same of what was read, wherever it lies
+        -- the same of what was read, wherever it is
         pub taken_more : (read : List ℕ) (batches : Batches) → read ≡ text ++ p.payload
             → (batches ++ map_while batch_of (texts_from epoch number (p.part + 1) p.parts read (map_while part_of rest)) ≡ batches ++ map_while batch_of (texts_from epoch number part parts text (map_while part_of (sector ∷ rest))))
             × (awaited_from epoch number part parts text (map_while part_of (sector ∷ rest)) ≡ 1 + awaited_from epoch number (p.part + 1) p.parts read (map_while part_of rest))

@@ -1,4 +1,4 @@
--- The sectors of a batch, laid one behind the other.
+-- The sectors of a batch, one after the other.
 use Rattle.std.proofs.Common.{◌≡◌, ◌<◌, ◌≤◌, ℕ, ◌+◌, ◌*◌, ◌/◌, ◌%◌, List, [], ◌∷◌, ◌++◌, length, length-take-le, get_or, take, drop, sym, ◌∙◌, ap, arith}
 use Rattle.std.proofs.lemmas.List.{length-drop, get_or-drop, take_more}
 use borrow.Rule.Slice.PartMut.{mid_of}
@@ -12,7 +12,7 @@ take_next sectors from i bytes lt is =
     take_more (drop from sectors) i [] (omega (arith, length-drop from sectors))
     ∙ ap (λ (b : List ℕ). take i (drop from sectors) ++ b ∷ []) (get_or-drop from sectors i [] ∙ sym is)
 
--- The bytes that are written by one call: those of so many sectors that were laid.
+-- The bytes that are written by one call: those of the sectors that were put there.
 pub record IsRunOf (n : ℕ) (bytes : List ℕ) (laid : List (List ℕ)) : Type 0 where
   pub count : length bytes / 512 ≡ n
   pub some : 512 * n ≡ length bytes

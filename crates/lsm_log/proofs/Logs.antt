@@ -28,7 +28,7 @@ Sectors = List (List ℕ)
 abbrev Batches : Type 0
 Batches = List (List Operation)
 
--- a batch behind others
+-- a batch after others
 one_more : (epoch first : ℕ) (batches : Batches) (batch : List Operation) → all_sectors epoch first (batches ++ batch ∷ []) ≡ all_sectors epoch first batches ++ batch_sectors epoch (first + length batches) batch
 one_more epoch first batches batch = all_sectors-append epoch first batches (batch ∷ []) ∙ ap (λ (l : Sectors). all_sectors epoch first batches ++ l) (append-nil (batch_sectors epoch (first + length batches) batch))
 
@@ -52,7 +52,7 @@ module _ (log : Log) (d : Disk) (opened : IsOpen log d) where
   pub open_used : log.used ≡ sum_by sectors_of (batches_in log (seen d))
   open_used = opened.used ∙ ap (sum_by sectors_of) (sym read_batches)
 
-  -- the place behind all sectors of the log
+  -- the place after all sectors of the log
   place : log.used ≡ length (all_sectors log.epoch log.first opened.synced) + length added_sectors
   place =
       opened.used ∙ sum_by-append sectors_of opened.synced opened.unsynced

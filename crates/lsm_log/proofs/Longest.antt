@@ -49,7 +49,7 @@ all_parts (s ∷ sectors) = by_part (all_parts sectors) (part_of s) refl
 
 -- ---- the parts that made a text
 
--- the parts of the first text, and those behind them
+-- the parts of the first text, and those after them
 record IsFirst (epoch number part parts : ℕ) (text : List ℕ) (ps : List Part) (whole : List ℕ) (later : Sectors) : Type 0 where
   count : ℕ
   total : ℕ
@@ -132,7 +132,7 @@ module _ (epoch : ℕ) where
           })
           (cases_Bool (part + 1 == p.parts))
 
-  -- so many parts has a batch of that text
+  -- n is the number of parts of a batch of that text
   count_is : (batch : List Operation) (n : ℕ) → length (batch_text batch) ≤ 480 * n → 480 * n < length (batch_text batch) + 480 → n ≡ sectors_of batch
   count_is batch n fits full =
       let bounds = div_ceil_times (length (batch_text batch)) 480 (omega arith) in

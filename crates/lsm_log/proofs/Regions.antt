@@ -55,7 +55,7 @@ take_take_min m n xs = ⊎_elim
     (λ (lt : n < m). let same : n ≡ min m n = omega arith in take_all m (take n xs) (omega (arith, length-take n xs)) ∙ ap (λ (k : ℕ). take k xs) same)
     (cases_le m n)
 
--- some of the batches behind those that stand
+-- some of the batches after the durable ones
 between_take : (xs ys : Batches) (k : ℕ) → IsBetween xs (xs ++ ys) (xs ++ take k ys)
 between_take xs ys k = record {
   from = (take k ys, refl);
@@ -139,7 +139,7 @@ module _ {epoch first : ℕ} {durable : Batches} {pending : Sectors} {d : Disk} 
           room = omega (arith, ap length all, length-append (all_sectors epoch first durable) pending, length-written (length d.stands) d.stands d.pending refl, holds.room);
         }
 
-  -- more sectors right behind those that pend
+  -- more sectors right after those that pend
   pub grown_holds : (sectors : Sectors) → length (all_sectors epoch first durable) + length pending + length sectors ≤ length d.stands
       → Holds epoch first durable (pending ++ sectors) (grown (run_at (length (all_sectors epoch first durable) + length pending) sectors) d)
   grown_holds sectors fits = record {

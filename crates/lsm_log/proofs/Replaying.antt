@@ -244,7 +244,7 @@ numbers_next epoch first count numbers = record {
   last_high = omega (arith, numbers.last_high);
 }
 
--- whole batches in front are read, and then what is behind them
+-- whole batches in front are read, and then what is after them
 pub replay-front : (epoch first : ℕ) (batches : Batches) (tail : Sectors) → All IsBatch batches → AreNumbers epoch first (length batches) → replay epoch first (all_sectors epoch first batches ++ tail) ≡ batches ++ replay epoch (first + length batches) tail
 replay-front epoch first [] tail all numbers = let same : first ≡ first + 0 = omega arith in ap (λ (n : ℕ). replay epoch n tail) same
 replay-front epoch first (batch ∷ batches) tail all numbers =

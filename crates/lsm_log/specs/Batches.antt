@@ -1,4 +1,4 @@
--- Batches, as they lie in a region: each begins a sector, and its text is cut into parts of 480 bytes.
+-- Batches, as a region holds them: each begins a sector, and its text is cut into parts of 480 bytes.
 use Rattle.std.specs.Prelude.{◌≡◌, ℕ, zero, suc, ◌+◌, List, [], ◌∷◌, ◌++◌, take, drop, map}
 use Rattle.lsm_codec.specs.LogSectors.{Part, log_sector}
 use Rattle.lsm_codec.specs.Map.{Operation}
@@ -26,7 +26,7 @@ all_sectors epoch number (batch ∷ batches) = batch_sectors epoch number batch 
 abbrev pub IsBeginning : List (List Operation) → List (List Operation) → Type 0
 IsBeginning xs ys = (rest : List (List Operation)) × (ys ≡ xs ++ rest)
 
--- all of the first, and of what more the last has a beginning
+-- `batches` begins with `least`, and `most` begins with `batches`
 pub record IsBetween (least most batches : List (List Operation)) : Type 0 where
   pub from : IsBeginning least batches
   pub to : IsBeginning batches most

@@ -6,7 +6,7 @@ use Rattle.lsm_codec.specs.LogSectors.{part_of}
 use Rattle.lsm_codec.specs.BatchText.{batch_of}
 use Rattle.lsm_log.specs.Replay.{map_while, texts_from, awaited_from}
 
--- the batches read, and those that the sectors to come bring
+-- the batches read, and those that are read from the sectors to come
 abbrev pub batches_with : {A : Type 0} → Gathered A → List (List ℕ) → List (List Operation)
 batches_with g rest = g.batches.items ++ map_while batch_of (texts_from g.epoch g.number g.part g.parts g.text.items (map_while part_of rest))
 
@@ -25,7 +25,7 @@ pub record IsOneMore {A : Type 0} (old new : Gathered A) : Type 0 where
   pub parts : new.parts ≡ 0
   pub text : new.text.items ≡ []
 
--- All parts of a batch are read. Whether their text is a batch's: if so, it is one batch more.
+-- All parts of a batch are read. Whether their text spells a batch: if so, it is one batch more.
 abbrev pub HasEnded : {A : Type 0} → Bool → Gathered A → Gathered A → Type 0
 HasEnded true old new = IsOneMore old new
 HasEnded false old new = (batch_of old.text.items ≡ None) × (new.batches.items ≡ old.batches.items)

@@ -36,7 +36,7 @@ is_above generation sector = has_epoch_above generation (part_of sector)
 abbrev pub HasNoneAbove : ℕ → List (List ℕ) → Type 0
 HasNoneAbove generation sectors = All (λ s. is_above generation s ≡ false) sectors
 
--- of the sectors of an area none that stands and none that pends is of an epoch above the generation
+-- in an area no durable sector and no pending write is of an epoch above the generation
 pub record NoneAboveIn (generation from count : ℕ) (d : Disk) : Type 0 where
   pub stands : HasNoneAbove generation (area from count d.stands)
   pub pends : All (λ (w : Write). is_above generation w.bytes ≡ false) (disk_in from count d).pending
@@ -48,7 +48,7 @@ pub record AreNumbers (epoch first count : ℕ) : Type 0 where
   pub first_low : 1 ≤ first
   pub last_high : first + count ≤ 2 ^ 63 + 1
 
--- A region, seen as a disk of its own: these batches stand, with no sector of the epoch behind them, and right behind
+-- A region, seen as a disk of its own: these batches are durable, with no sector of the epoch after them, and right after
 -- them these sectors pend.
 pub record Holds (epoch first : ℕ) (synced : List (List Operation)) (pending : List (List ℕ)) (d : Disk) : Type 0 where
   pub front : take (length (all_sectors epoch first synced)) d.stands ≡ all_sectors epoch first synced
@@ -68,7 +68,7 @@ pub record IsOpen (log : Log) (d : Disk) : Type 0 where
   pub next : log.next ≡ log.first + (length synced + length unsynced)
   pub used : log.used ≡ sum_by sectors_of (synced ++ unsynced)
 
--- what a log may be opened on: nothing pends in the region, and no sector of the epoch stands there
+-- what a log may be opened on: nothing pends in the region, and no durable sector there is of the epoch
 pub record IsFree (start sectors epoch : ℕ) (d : Disk) : Type 0 where
   pub none : HasNone epoch (area start sectors d.stands)
   pub settled : (disk_in start sectors d).pending ≡ []
@@ -93,6 +93,6 @@ pub record IsOfLog (log : Log) (w : Write) : Type 0 where
   pub high : w.at < log.start + log.sectors
   pub epoch : is_of log.epoch w.bytes ≡ true
 
--- beside what pended nothing but such writes
+-- the new disk has, besides what pended, only such writes
 abbrev pub IsGrownBy : Log → Disk → Disk → Type 0
 IsGrownBy log old new = (ws : List Write) × All (IsOfLog log) ws × (new ≡ grown ws old)

@@ -51,7 +51,7 @@ impl Log {
         sectors_of(batch) <= self.room()
     }
 
-    /// Appends a batch, and takes no memory. It stands after the next sync.
+    /// Appends a batch, and takes no memory. The next sync makes it durable.
     /// The log is full where the batch's sectors don't fit the region. Once a device call has failed, nothing more is
     /// promised of the log than what a crash may leave.
     pub fn append<D: Device, A: Allocator>(
@@ -62,8 +62,8 @@ impl Log {
         requires number { self.old.next ≤ 2 ^ 63 }
         requires within { self.old.start + self.old.sectors ≤ (D.medium device.old).size }
 
-        // Where the log goes with its region, a crash at any moment leaves all batches that stand, and of the others and
-        // this one a beginning.
+        // Where the log is open on this disk, a crash at any moment leaves all durable batches, and of the others and
+        // this one a prefix.
         ensures any_moment { let old = disk (D.medium device.old) in IsTrue (D.medium device.old).lasting.tells → IsOpen self.old (disk (D.medium device.old)) → EachSince
             (Leaves (λ image. IsBetween (batches_in self.old old.stands) (batches_in self.old (seen old) ++ batch.now ∷ []) (batches_in self.old image)))
             (D.medium device.old).history (D.medium device.new).history }
@@ -72,7 +72,7 @@ impl Log {
         ensures written { IsTrue (D.medium device.old).lasting.tells → IsOpen self.old (disk (D.medium device.old)) → EachSince (IsGrownBy self.old (disk (D.medium device.old)))
             (D.medium device.old).history (D.medium device.new).history }
 
-        // Reads give this batch behind the others, and what stands is the same.
+        // Reads return this batch after the others, and the durable batches are the same.
         ensures open { IsTrue (D.medium device.old).lasting.tells → IsOpen self.old (disk (D.medium device.old)) → OnOk result (IsOpen self.new (disk (D.medium device.new))) }
         ensures appended { IsTrue (D.medium device.old).lasting.tells → IsOpen self.old (disk (D.medium device.old)) → OnOk result
             (batches_in self.new (seen (disk (D.medium device.new)))
@@ -81,7 +81,7 @@ impl Log {
             (batches_in self.new (disk (D.medium device.new)).stands ≡ batches_in self.old (disk (D.medium device.old)).stands) }
         ensures takes { OnOk result (TakesBatch batch.now self.old self.new) }
 
-        // It is refused exactly where its sectors don't fit, and else only for a device call that failed, its last.
+        // `LogFull` exactly where its sectors don't fit; else the only error is `Io`, of a device call that failed, its last.
         ensures full { (result ≡ Err Refusal.LogFull) ↔ (self.old.sectors < self.old.used + sectors_of batch.now) }
         ensures full_changes_nothing { result ≡ Err Refusal.LogFull → device.new ≡ device.old }
         ensures refused { IfErr result (λ refusal. (refusal ≡ Refusal.LogFull)
@@ -89,7 +89,7 @@ impl Log {
         ensures err { OnErr result (self.new ≡ self.old) }
         ensures faults { (D.medium device.new).calls.faults ≡ faults_after (faultless result) (D.medium device.old).calls.faults }
 
-        // Its sectors are written, 128 or fewer, and nothing else is asked of the device; of Io one of these writes is the cause.
+        // Its sectors are written, 128 or fewer, and no other device call is made; `Io` comes from one of these writes.
         ensures counted { OnOk result ((D.medium device.new).calls ≡ after_writes (sectors_of batch.now) (D.medium device.old).calls) }
         ensures faulted { result ≡ Err Refusal.Io → WriteFaultsAmong (sectors_of batch.now) (D.medium device.old).calls (D.medium device.new).calls }
         ensures calls { AtMost 0 (sectors_of batch.now) 0 (D.medium device.old).calls (D.medium device.new).calls }
@@ -107,7 +107,7 @@ impl Log {
         Ok(())
     }
 
-    // Writes the sectors of a batch behind those that the log has.
+    // Writes the sectors of a batch after those that the log has.
     fn write_parts<D: Device, A: Allocator>(
         &self,
         device: &mut D,
@@ -136,7 +136,7 @@ impl Log {
         Ok(())
     }
 
-    // Writes the sectors of a batch as runs, each by one call of the device. A batch of one sector is spared the array.
+    // Writes the sectors of a batch as runs, each by one call of the device. For a batch of one sector the array isn't needed.
     fn write_runs<D: Device, A: Allocator>(
         &self,
         device: &mut D,
@@ -167,7 +167,7 @@ impl Log {
         Ok(())
     }
 
-    // Lays the sectors of some parts one behind the other.
+    // Writes the sectors of `count` consecutive parts into `run`.
     fn lay_parts<A: Allocator>(
         &self,
         batch: &Batch<A>,

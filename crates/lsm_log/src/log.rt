@@ -1,7 +1,7 @@
 // A log of a region.
 ghost use Rattle.std.specs.Prelude.{◌<◌, ◌≤◌, ◌^◌, ◌+◌};
 
-/// An open log of a region of a device: which sectors it has, and how far it has come.
+/// An open log of a region of a device: which sectors it has, how many are used, and the numbers of its batches.
 #[derive(Debug, Drop)]
 pub struct Log {
     pub(crate) start: u32,

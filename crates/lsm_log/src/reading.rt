@@ -50,7 +50,7 @@ impl<A: Allocator + Clone> Gathered<A> {
         })
     }
 
-    // All parts of a batch are read: it joins the others, unless their text is no batch's.
+    // All parts of a batch are read: it is added to the others, unless their text is invalid.
     fn end_batch(&mut self, alloc: &A) -> Result<bool, Refusal>
         requires { self.old.number ≤ 2 ^ 63 }
         ensures ended { IfOk result (λ ended. HasEnded ended self.old self.new) }
@@ -142,7 +142,7 @@ impl<A: Allocator + Clone> Gathered<A> {
 }
 
 /// The batches of an epoch in a region: `first`, `first + 1` .., each with all its parts in consecutive sectors, from the
-/// region's first sector on. The first sector that is not the awaited one ends it, and so does a text that is no batch's.
+/// region's first sector on. The first sector that is not the awaited one ends it, and so does a text that spells no batch.
 pub fn replay<D: Device, A: Allocator + Clone>(
     alloc: A,
     device: &mut D,
@@ -158,7 +158,7 @@ pub fn replay<D: Device, A: Allocator + Clone>(
     // The last batch has a number that a batch may have.
     ensures numbers { IfOk result (λ batches. 1 ≤ length batches.items → first + length batches.items ≤ 2 ^ 63 + 1) }
 
-    // It is refused only for want of memory, and for a read that failed, its last call.
+    // It fails only for want of memory, and for a read that failed, its last call.
     ensures refused { IfErr result (λ refusal. (refusal ≡ Refusal.NoMemory)
         ⊎ ((refusal ≡ Refusal.Io) × ((D.medium device.new).calls.last_faulted ≡ true))) }
     ensures faults { (D.medium device.new).calls.faults ≡ faults_after (faultless result) (D.medium device.old).calls.faults }
@@ -177,8 +177,8 @@ pub fn replay<D: Device, A: Allocator + Clone>(
     Ok(gathered.batches)
 }
 
-/// A replay gives the longest run of batches that the sectors begin with: none of them lacks a part, and behind them
-/// come not all sectors of another one.
+/// A replay gives the longest run of batches that the sectors begin with: none of them lacks a part, and after them
+/// there are not all sectors of another one.
 pub fn replay_is_longest()
     ensures { (epoch first : ℕ) (sectors : List (List ℕ)) → AreNumbers epoch first 0
         → IsLongest epoch first sectors (replay_of epoch first sectors) }

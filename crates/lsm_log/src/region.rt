@@ -12,7 +12,7 @@ ghost use Rattle.lsm_log.specs.Opened.{IsOpen, IsFree, HasNoneAbove, NoneAboveIn
 use crate::Log;
 
 impl Log {
-    /// A log with no batch yet, of the sectors from `start` on. The region must be free: no sector of the epoch stands
+    /// A log with no batch yet, of the sectors from `start` on. The region must be free: no sector of the epoch is
     /// there, and nothing pends. Epoch and first number are at least 1, the epoch at most 2^63, the number one more.
     pub fn new(start: u32, sectors: u32, epoch: u64, first: u64) -> Log
         requires { start + sectors < 2 ^ 32 }
@@ -77,16 +77,16 @@ impl Log {
 
     /// What holds of an open log, whoever calls the device.
     pub fn laws(&self)
-        // A crash leaves all batches that stand, and of the others a beginning.
+        // A crash leaves all durable batches, and of the others a prefix.
         ensures crash { (d : Disk) → IsOpen self.now d →
             Leaves (λ image. IsBetween (batches_in self.now d.stands) (batches_in self.now (seen d)) (batches_in self.now image)) d }
 
-        // The log counts what reads give.
+        // The log counts what reads return.
         ensures next { (d : Disk) → IsOpen self.now d → self.now.next ≡ self.now.first + length (batches_in self.now (seen d)) }
         ensures used { (d : Disk) → IsOpen self.now d → self.now.used ≡ sum_by sectors_of (batches_in self.now (seen d)) }
         ensures whole { (d : Disk) → IsOpen self.now d → All IsBatch (batches_in self.now (seen d)) }
 
-        // A sync makes all batches stand.
+        // A sync makes all batches durable; the log stays open.
         ensures sync { (d : Disk) → IsOpen self.now d → IsOpen self.now (synced d) }
 
         // Writes outside the region change nothing.
@@ -101,7 +101,7 @@ impl Log {
             × (batches_in self.now (seen new) ≡ batches_in self.now (seen old))
             × (batches_in self.now new.stands ≡ batches_in self.now old.stands) }
 
-        // So it does where its region was synced, and then all its batches stand.
+        // So it does where its region was synced, and then all its batches are durable.
         ensures synced_region { (old new : Disk) → IsOpen self.now old → length new.stands ≡ length old.stands
             → disk_in self.now.start self.now.sectors new ≡ synced (disk_in self.now.start self.now.sectors old)
             → IsOpen self.now new

@@ -174,7 +174,7 @@ idle (suc k) used more = inr (omega arith)
 idle zero zero more = inl refl
 idle zero (suc n) more = absurd (more (refl, omega arith))
 
--- a sync is behind the records of a journal whose last one is a sync, and else it is one more
+-- a sync adds nothing to a journal whose last record is a sync, and else it is one more record
 pub ends-in-sync : (old : List ℕ) (used head first count : ℕ) (wrote : Bool) → used ≤ length old → Laid (take used old) head first count wrote → (count ≡ 0) × (0 < used) →
     with_sync (records_of (take used old)) ≡ records_of (take used old)
 ends-in-sync old used head first count wrote within laid (none, some) =

@@ -1,4 +1,4 @@
--- Bytes that are put over those from a place on.
+-- Bytes from a place on are overwritten.
 use Rattle.std.proofs.Common.{◌≡◌, ◌≤◌, ℕ, ◌+◌, ◌-◌, List, [], ◌++◌, length, length-append, take, drop, sym, ◌∙◌, ap, arith, append-nil, append_assoc, take-take, length-take-le}
 use Rattle.std.proofs.lemmas.List.{drop-append-le, drop-drop, drop-take, drop_all, length-drop, take-append-le, take_at}
 use Rattle.std.proofs.Math.Seq.{take-append-add}
@@ -46,7 +46,7 @@ three_over n at first count more old mid put new four four' reach fits is-mid is
     ∙ ap (λ (l : List ℕ). l ++ more) (append_assoc (take at old) first count)
     ∙ append_assoc (take at old) (first ++ count) more
 
--- bytes behind those that were, and a number within these
+-- bytes after the others, and a number within the others
 pub two_over : (n used head : ℕ) (count more old mid new : List ℕ) → length count ≡ 4 → n ≡ used + length more → used + length more ≤ length old → head + 8 ≤ used →
     mid ≡ over used more old → new ≡ over (head + 4) count mid → take n new ≡ take (head + 4) old ++ (count ++ (drop (head + 8) (take used old) ++ more))
 two_over n used head count more old mid new four reach fits inside is-mid is-new =

@@ -46,7 +46,7 @@ unfolding after_record
 record-sync first [] past none = refl
 record-sync first (s ∷ ss) past none = absurd (omega (arith, none))
 
--- a write is made behind all of them
+-- a write is made after all of them
 pub write-made : (at : ℕ) (bytes : List ℕ) (rs : List Record) (past : List Disk) →
     after_records (with_write at bytes rs) past ≡ appended (record { at = at; bytes = bytes }) (present (after_records rs past)) ∷ after_records rs past
 write-made at bytes rs past = elim (cases_Bool (goes_on at (last rs).first (length (last rs).sectors))) [

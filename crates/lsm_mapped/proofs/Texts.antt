@@ -46,7 +46,7 @@ pub length-number : (n : ℕ) → length (number_text n) ≡ 4
 unfolding number_text
 length-number n = length-bytes_low_first 0 4 n
 
--- a number is put over four bytes
+-- a number overwrites four bytes
 pub over-number : (at n : ℕ) (old new : List ℕ) → new ≡ take at old ++ (number_text n ++ drop (at + 4) old) → new ≡ over at (number_text n) old
 over-number at n old new is = is ∙ ap (λ (k : ℕ). take at old ++ (number_text n ++ drop (at + k) old)) (sym (length-number n))
 

@@ -7,11 +7,11 @@ use Rattle.lsm_device.specs.Medium.{Ended, Lasting, Medium}
 use Rattle.lsm_device.specs.Runs.{pieces}
 use Rattle.lsm_mapped.specs.Records.{IsWhole, Record, text_of}
 
--- so many sectors of a mapping; where it ends before them, zeros follow
+-- n sectors of a mapping; where it ends before them, zeros follow
 unfoldable pub mapped_sectors : ℕ → List ℕ → List (List ℕ)
 mapped_sectors n image = pieces n (image ++ replicate (512 * n) 0)
 
--- The disks that a device of so many sectors has had, of which a mapping shows the last: its reads see what was written, though a
+-- The disks that a device of n sectors has had, of which a mapping shows the last: its reads see what was written, though a
 -- crash may still lose what was not synced. Each mapping shows one, on which nothing pends.
 pub record IsPast (n : ℕ) (image : List ℕ) (past : List Disk) : Type 0 where
   pub disks : IsHistory n past
@@ -32,11 +32,11 @@ unfoldable pub after_records : List Record → List Disk → List Disk
 after_records [] past = past
 after_records (r ∷ rs) past = after_records rs (after_record r.first r.sectors past)
 
--- a record of sectors of a device of so many
+-- a record writes only sectors of a device of n sectors
 abbrev pub IsWithin : ℕ → Record → Type 0
 IsWithin n r = r.first + length r.sectors ≤ n
 
--- So many bytes of a journal are the text of these records, of numbers of 32 bits and whole sectors, which a device of n sectors has.
+-- The first `used` bytes of a journal are the text of these records, of numbers of 32 bits and whole sectors, within n sectors.
 pub record IsFilledWith (n used : ℕ) (journal : List ℕ) (records : List Record) : Type 0 where
   pub text : take used journal ≡ text_of records
   pub size : used ≡ length (text_of records)
@@ -47,8 +47,8 @@ pub record IsFilledWith (n used : ℕ) (journal : List ℕ) (records : List Reco
 abbrev pub before : List Disk → Ended
 before past = record { fuse_set = None; failure_set = None; times_set = 0; calls = no_calls; history = past }
 
--- Of a device over a mapping: the disks that it had before. The loan of its journal has a number, which stands where a device in memory
--- counts its fuses.
+-- Of a device over a mapping: the disks that it had before. The loan of its journal has a number, kept in the field in which a device
+-- in memory counts its fuses.
 abbrev pub lasting_of : ℕ → List Disk → Lasting
 lasting_of loan past = record { tells = true; fuse_set = None; failure_set = None; times_set = loan; ended = before past ∷ [] }
 

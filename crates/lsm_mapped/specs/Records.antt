@@ -26,7 +26,7 @@ with_sector bytes r = record { first = r.first; sectors = r.sectors ++ bytes ∷
 unfoldable pub number_text : ℕ → List ℕ
 number_text n = little_bytes 4 n
 
--- the first sector and how many, and then the bytes of the sectors
+-- the first sector, the number of sectors, and their bytes
 abbrev pub record_text : Record → List ℕ
 record_text r = (number_text r.first ++ number_text (length r.sectors)) ++ concat r.sectors
 
@@ -35,7 +35,7 @@ unfoldable pub text_of : List Record → List ℕ
 text_of [] = []
 text_of (r ∷ rs) = record_text r ++ text_of rs
 
--- the records that a text says, at most so many
+-- at most n records that a text spells
 unfoldable pub records_from : ℕ → List ℕ → List Record
 records_from zero text = []
 records_from (suc n) [] = []
@@ -43,7 +43,7 @@ records_from (suc n) (b ∷ text) =
     record { first = little_number 4 (b ∷ text); sectors = pieces (little_number 4 (drop 4 (b ∷ text))) (drop 8 (b ∷ text)) }
     ∷ records_from n (drop (8 + 512 * little_number 4 (drop 4 (b ∷ text))) (b ∷ text))
 
--- all that it says
+-- all records that it spells
 unfoldable pub records_of : List ℕ → List Record
 records_of text = records_from (length text) text
 
@@ -67,7 +67,7 @@ front [] = []
 front (r ∷ []) = []
 front (r ∷ (s ∷ rs)) = r ∷ front (s ∷ rs)
 
--- whether a write of a sector goes on where a record of so many ends, and their number stays one of 32 bits
+-- whether sector `at` comes right after a record of `count` sectors from `first` on, no sync, and the new count fits in 32 bits
 abbrev pub goes_on : ℕ → ℕ → ℕ → Bool
 goes_on at first count = nat_lt 0 count && (nat_lt count 4294967295 && (first + count == at))
 
@@ -77,7 +77,7 @@ with_write at bytes rs = if goes_on at (last rs).first (length (last rs).sectors
     then front rs ++ with_sector bytes (last rs) ∷ []
     else rs ++ write_record at bytes ∷ []
 
--- A sync behind all of them. One behind a sync is that sync.
+-- A sync after all of them; none is added right after a sync.
 unfoldable pub with_sync : List Record → List Record
 with_sync [] = sync_record ∷ []
 with_sync (r ∷ rs) = if length (last (r ∷ rs)).sectors == 0 then r ∷ rs else r ∷ rs ++ sync_record ∷ []

@@ -4,16 +4,16 @@ ghost use Rattle.lsm_mapped.specs.Records.{number_text};
 
 use byteorder::{ByteOrder, LittleEndian};
 
-/// The bytes before those of a record's sectors: the first sector and how many, each a u32 in little endian.
+/// The bytes of a record's head: the first sector and the number of sectors, each a u32 in little endian.
 const HEAD_BYTES: usize = 8;
 
 const SECTOR_BYTES: usize = 512;
 
 /// The writes and syncs of a call in their order, each a record: a head of 8 bytes, which has the first sector and the number of
-/// sectors, each a u32 in little endian, and then the bytes of these sectors. No sectors is a sync. A write that goes on where the last
-/// record ends shares it. What finds no room changes nothing.
+/// sectors, each a u32 in little endian, and then the bytes of these sectors. A record with no sectors is a sync. A write that goes on
+/// where the last record ends shares it. A write or sync for which there is no room changes no record.
 ///
-/// These are its numbers. The bytes that it fills are given to each call.
+/// This type has only its numbers. The bytes that it fills are passed to each call.
 #[derive(Drop)]
 pub(crate) struct Journal {
     used: usize,
@@ -52,7 +52,7 @@ impl Journal {
         self.wrote
     }
 
-    /// Appends a sync, and tells whether there was room for it. One that follows a sync changes nothing.
+    /// Appends a sync. Returns whether there was room for it. A sync right after a sync changes nothing.
     pub(crate) fn sync(&mut self, bytes: &mut [u8]) -> bool
         requires { Fills self.old bytes.old }
         ensures fills { Fills self.new bytes.new }
@@ -76,7 +76,7 @@ impl Journal {
         true
     }
 
-    /// Appends a write of a sector, and tells whether there was room for it.
+    /// Appends a write of a sector. Returns whether there was room for it.
     pub(crate) fn write(&mut self, bytes: &mut [u8], at: u32, sector: &[u8; 512]) -> bool
         requires { Fills self.old bytes.old }
         ensures fills { Fills self.new bytes.new }
@@ -154,7 +154,7 @@ impl Journal {
     }
 }
 
-// Lays a record behind so many bytes.
+// Writes a record after the first `at` bytes.
 fn lay(bytes: &mut [u8], at: usize, first: u32, count: u32, sectors: &[u8])
     requires { at + (8 + length sectors.now) ≤ length bytes.old }
     ensures { take (at + (8 + length sectors.now)) bytes.new ≡ take at bytes.old ++ ((number_text first ++ number_text count) ++ sectors.now) }
@@ -164,7 +164,7 @@ fn lay(bytes: &mut [u8], at: usize, first: u32, count: u32, sectors: &[u8])
     put(bytes, at + HEAD_BYTES, sectors);
 }
 
-// Lays a sector behind so many bytes, and raises the count of the record whose head is at a place.
+// Writes a sector after the first `used` bytes, and raises the count of the record whose head is at `head`.
 fn lay_more(bytes: &mut [u8], used: usize, head: usize, count: u32, sector: &[u8])
     requires room { used + length sector.now ≤ length bytes.old }
     requires head { head + 8 ≤ used }
@@ -174,7 +174,7 @@ fn lay_more(bytes: &mut [u8], used: usize, head: usize, count: u32, sector: &[u8
     put_number(bytes, head + 4, count);
 }
 
-// Puts a number over the four bytes from a place on.
+// Overwrites the four bytes from `at` on with a number.
 fn put_number(bytes: &mut [u8], at: usize, number: u32)
     requires { at + 4 ≤ length bytes.old }
     ensures { bytes.new ≡ take at bytes.old ++ (number_text number ++ drop (at + 4) bytes.old) }
@@ -182,7 +182,7 @@ fn put_number(bytes: &mut [u8], at: usize, number: u32)
     LittleEndian::write_u32(&mut bytes[at..], number);
 }
 
-// Puts bytes over those from a place on.
+// Overwrites the bytes from `at` on with `more`.
 fn put(bytes: &mut [u8], at: usize, more: &[u8])
     requires { at + length more.now ≤ length bytes.old }
     ensures { bytes.new ≡ take at bytes.old ++ (more.now ++ drop (at + length more.now) bytes.old) }

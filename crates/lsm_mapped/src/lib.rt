@@ -2,7 +2,7 @@
 //!
 //! A host that isn't written in Rattle, as a C library, gives each call its mapping of the file, and room for a journal. The call reads
 //! from the mapping, and what it writes and syncs goes into the journal, in order ([`MappedDevice`]). The host makes the journal on the
-//! file, one operation after the other, before it tells anybody what the call answered, and before it calls again. Between two calls a
+//! file, one operation after the other, before it passes on what the call returned, and before it calls again. Between two calls a
 //! store is on a [`ParkedDevice`], of which each call is a fault.
 //!
 //! So the file is at each moment at some point of the writes and syncs that the store has made, as it is under a device that makes them
@@ -13,7 +13,7 @@
 //! let (mut store, _) = store.on(MappedDevice::new(image, journal, sectors));
 //! let number = store.commit(&batch);
 //! let (store, device) = store.on(parked);
-//! let used = device.used(); // so many bytes of the journal are to be made
+//! let used = device.used(); // this number of bytes of the journal are to be made
 //! ```
 #![tactic(auto)]
 

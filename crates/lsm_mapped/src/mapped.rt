@@ -10,16 +10,16 @@ use std::mem;
 
 const SECTOR_BYTES: usize = 512;
 
-/// The host's mapping of a file, and room for a journal of what a call writes. Contracts are told the disks that the file has had, of
+/// The host's mapping of a file, and room for a journal of what a call writes. Contracts see the disks that the file has had, of
 /// which the mapping shows the last, and those that it has had once the records of the journal are made on it. Where the mapping ends
 /// before the sectors do, it is as if zeros followed.
 ///
 /// A read of sectors that the mapping doesn't have is a fault, and so is a write or a sync for which the journal has no room. A read
-/// behind a write is a fault too, since the mapping doesn't have that write yet: no call of a store makes one.
+/// after a write is a fault too, since the mapping doesn't have that write yet: no call of a store makes one.
 #[derive(Drop)]
 pub struct MappedDevice<'a> {
     image: &'a [u8],
-    // The host's own reference: while it stands here, whoever lent it knows what it is left with.
+    // The host's own reference: while it is kept here, whoever lent it knows what it is left with.
     bytes: &'a mut [u8],
     journal: Journal,
     past: Past,
@@ -38,7 +38,7 @@ impl<'a> MappedDevice<'a> {
     ghost use Rattle.lsm_mapped.specs.Disks.{IsFilledWith, after_records, lasting_of, mapped};
     ghost use Rattle.lsm_mapped.specs.Records.{syncs_in, writes_in};
 
-    /// The device of so many sectors over a mapping, which has 512 bytes for each of them, and with an empty journal.
+    /// The device of `sectors` sectors over a mapping that shows the last of its disks, with an empty journal.
     pub fn new(image: &'a [u8], journal: &'a mut [u8], sectors: u32) -> MappedDevice<'a>
         ghost past: { List Disk }
         requires { IsPast sectors image.now past }
@@ -64,7 +64,7 @@ impl<'a> MappedDevice<'a> {
         ensures filled { IsFilledWith (⟦<MappedDevice<'a> as Device>⟧.medium self.now).size result self.now.bytes.now (records_on self.now) }
         ensures within { result ≤ length self.now.bytes.now }
 
-        // The disks that it tells are those before, and those that it has had once the records are made: one for each write and each sync.
+        // Its history is the disks before, and those that it has had once the records are made: one for each write and each sync.
         ensures lasting { (⟦<MappedDevice<'a> as Device>⟧.medium self.now).lasting ≡ lasting_of self.now.bytes.ghost_name (past_on self.now) }
         ensures made { (⟦<MappedDevice<'a> as Device>⟧.medium self.now).history ≡ after_records (records_on self.now) (past_on self.now) }
         ensures many { length (⟦<MappedDevice<'a> as Device>⟧.medium self.now).history ≡ length (past_on self.now) + writes_in (records_on self.now) + syncs_in (records_on self.now) }

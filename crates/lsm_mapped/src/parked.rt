@@ -12,7 +12,7 @@ pub struct ParkedDevice {
 }
 
 impl ParkedDevice {
-    /// The device of so many sectors.
+    /// The device of `sectors` sectors.
     pub fn new(sectors: u32) -> ParkedDevice
         ensures size { (⟦<ParkedDevice as Device>⟧.medium result).size ≡ sectors }
     {

@@ -1,8 +1,8 @@
--- Beginnings of lists, and batches behind others.
+-- Beginnings of lists, and batches after others.
 use Rattle.std.proofs.Common.{◌≡◌, ℕ, zero, suc, ◌+◌, List, [], ◌∷◌, ◌++◌, take, drop, refl, ap, sym, ◌∙◌, arith}
 use Rattle.lsm_codec.specs.Map.{Map, Operation, apply, apply_all}
 
--- more batches behind others
+-- more batches after others
 pub apply_all-append : (m : Map) (xs ys : List (List Operation)) → apply_all m (xs ++ ys) ≡ apply_all (apply_all m xs) ys
 apply_all-append m [] ys = refl
 apply_all-append m (x ∷ xs) ys = apply_all-append (apply m x) xs ys

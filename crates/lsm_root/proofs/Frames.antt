@@ -25,13 +25,13 @@ use Rattle.lsm_root.proofs.Naming.{may_name-Decides}
 abbrev pub Image : Type 0
 Image = List (List ℕ)
 
--- what lies below all the writes
+-- what is below all the writes
 take-written : (n : ℕ) (start : Image) (ws : List Write) → All (λ w. n ≤ w.at) ws → take n (written start ws) ≡ take n start
 take-written n start [] all = refl
 take-written n start (w ∷ ws) all =
     take-written n (set start w.at w.bytes) ws (All-tail (λ (v : Write). n ≤ v.at) w ws all) ∙ take-set-le n start w.at w.bytes (All-head (λ (v : Write). n ≤ v.at) w ws all)
 
--- what lies above all the writes
+-- what is above all the writes
 drop-written : (n : ℕ) (start : Image) (ws : List Write) → All (λ w. w.at < n) ws → drop n (written start ws) ≡ drop n start
 drop-written n start [] all = refl
 drop-written n start (w ∷ ws) all =
@@ -47,7 +47,7 @@ area_below n from count c e same le =
     ∙ ap (λ (l : Image). drop from l) (sym (take-take (from + count) n c le) ∙ ap (λ (l : Image). take (from + count) l) same ∙ take-take (from + count) n e le)
     ∙ drop-take from count e
 
--- the same from n on: the same from each place behind n on
+-- the same from n on: the same from each place after n on
 pub drop_above : (n from : ℕ) (c e : Image) → drop n c ≡ drop n e → n ≤ from → drop from c ≡ drop from e
 drop_above n from c e same le =
     let there : n + (from - n) ≡ from = omega arith in
@@ -109,7 +109,7 @@ module _ (g : ℕ) (e : Image) (ws : List Write) (inside : All (InArea g) ws) wh
   pub superblock_stays : superblock_in (written e ws) ≡ superblock_in e
   superblock_stays = superblocks_same (written e ws) e (sector_below (place g) 0 (written e ws) e below (omega arith)) (sector_below (place g) 1 (written e ws) e below (omega arith))
 
-  -- they leave what lies behind the root
+  -- they leave what is after the root
   pub behind_stays : behind (written e ws) ≡ behind e
   behind_stays = drop_above (place g + 64) 130 (written e ws) e above (omega arith)
 
@@ -139,7 +139,7 @@ module _ (d : Disk) (mask : List Bool) (settled : IsSettled d) where
   pub superblock_of_outcome : superblock_in (image mask d) ≡ superblock_in (seen d)
   superblock_of_outcome = superblock_below (image mask d) (seen d) long front
 
--- writes behind the root leave it
+-- writes after the root leave it
 module _ (d : Disk) (ws : List Write) (settled : IsSettled d) (elsewhere : All (λ w. 130 ≤ w.at) ws) where
   pub settled_elsewhere : IsSettled (grown ws d)
   settled_elsewhere = All-append (λ (w : Write). 130 ≤ w.at) d.pending ws settled elsewhere

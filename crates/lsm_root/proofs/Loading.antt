@@ -75,7 +75,7 @@ pub manifest_refused : (root whole : Root) (e : Refusal) → whole ≡ root → 
 manifest_refused root whole e is (inl full) = inr (inl full)
 manifest_refused root whole e is (inr none) = inl (ap refusal_of (is ∙ none.0) ∙ ap Some (sym none.1))
 
--- the same where only the refusal is told
+-- the same where only the refusal is known
 pub manifest_refusal : (root : Root) (e : Refusal) → (e ≡ NoMemory) ⊎ ((root ≡ Unreadable) × (e ≡ BadManifest)) → ((r : Root) × (refusal_of r ≡ Some e)) ⊎ ((e ≡ NoMemory) ⊎ (e ≡ Io))
 manifest_refusal root e (inl full) = inr (inl full)
 manifest_refusal root e (inr none) = inl (Unreadable, ap Some (sym none.1))

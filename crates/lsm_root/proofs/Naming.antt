@@ -21,12 +21,12 @@ inside-Decides : (size log : ℕ) (tables : List TableRecord) → Decides (list_
 inside-Decides size log tables =
     all-Decides (lies_inside (data_blocks_of size log)) (λ t. extent_end t ≤ data_blocks_of size log) (λ t. at_most-Decides (extent_end t) (data_blocks_of size log)) tables
 
--- just those of its generation whose tables lie in the data area
+-- exactly those of its generation whose tables are in the data area
 pub may_name-Decides : (s : Superblock) (c : Contents) → Decides (may_name s c) ((c.generation ≡ s.generation) × LieInside s.sectors s.log_sectors c.tables)
 may_name-Decides s c =
     Decides-and (c.generation == s.generation) (list_all (lies_inside (data_blocks_of s.sectors s.log_sectors)) c.tables)
     (Decides-eqb c.generation s.generation) (inside-Decides s.sectors s.log_sectors c.tables)
 
--- no table lies elsewhere where there is none
+-- where there is no table, none is outside the data area
 pub none_elsewhere : (size log : ℕ) (tables : List TableRecord) → tables ≡ [] → LieInside size log tables
 none_elsewhere size log tables none = subst (LieInside size log) (sym none) (All-nil (λ (t : TableRecord). extent_end t ≤ data_blocks_of size log))

@@ -36,7 +36,7 @@ kept_none : (ws vs : List Write) (mask : List Bool) → kept (replicate (length 
 kept_none [] vs mask = refl
 kept_none (w ∷ ws) vs mask = kept_none ws vs mask
 
--- The superblock pends beside the manifest: a crash may keep it alone, and then it names what stood in its area.
+-- The superblock pends along with the manifest: a crash may keep it alone, and then it names what was in its area.
 module _ {start : Disk} {new : Superblock} {text : List ℕ} {m : Contents} (can : CanInstall start new text m) (log : ℕ) (old : Contents) (stood : root_of (seen start) ≡ Stands log old)
     (other : manifest_of new.version (text_in new (seen start)) ≡ Some m → ⊥) where
   flipped_alone : List (List ℕ)

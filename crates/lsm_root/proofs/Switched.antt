@@ -105,7 +105,7 @@ module _ {start : Disk} {new : Superblock} {text : List ℕ} {m : Contents} (can
     stands = subst (IsNew start (Stands new.log_sectors m)) (sym (ap (λ (l : Image). set l (new.generation % 2) (superblock_sector new)) readied)) flipped_new;
   })
 
-  -- nothing is written behind the root
+  -- nothing is written after the root
   out_of : (from n : ℕ) → 130 ≤ from → (ws : List Write) → All (Within 0 130) ws → All (IsOutside from n) ws
   out_of from n low ws all = All-weaker (Within 0 130) (IsOutside from n) (λ w is. inl (omega (arith, is.1))) ws all
 

@@ -9,7 +9,7 @@ use Rattle.lsm_device.specs.declared.refusal.Refusal.TheVariants.{NoMemory, Io, 
 abbrev pub last_number : ℕ
 last_number = 2 ^ 63
 
--- What a crash leaves: the map after the first so many batches, how many closed log regions hold batches, and the
+-- What a crash leaves: the map after the first `count` batches, how many closed log regions hold batches, and the
 -- generation.
 pub record CrashState : Type 0 where
   pub count : ℕ
@@ -30,11 +30,11 @@ in_next_generation left = record left { generation = left.generation + 1 }
 abbrev pub left_by_opening : CrashState → List CrashState
 left_by_opening left = if left.generation == last_number then left ∷ [] else left ∷ in_next_generation left ∷ []
 
--- An opening of what a crash left may answer a store: in each generation but the last.
+-- An opening of what a crash left may return a store: in each generation but the last.
 abbrev pub MayOpen : CrashState → Type 0
 MayOpen left = left.generation ≢ last_number
 
--- An opening of what a crash left may be refused so: for want of memory, because of a fault of the device, or exactly
+-- An opening of what a crash left may fail with this: for want of memory, because of a fault of the device, or exactly
 -- in the last generation because there is no next.
 abbrev pub MayRefuseOpening : CrashState → Refusal → Type 0
 MayRefuseOpening left NoMemory = Unit {0}
@@ -42,7 +42,7 @@ MayRefuseOpening left Io = Unit {0}
 MayRefuseOpening left Exhausted = left.generation ≡ last_number
 MayRefuseOpening left other = ⊥
 
--- so many openings after one another, each crashed or refused, leave this at last
+-- `openings` consecutive openings, each crashed or refused, leave this at last
 abbrev pub IsLeftAgain : CrashState → ℕ → CrashState → Type 0
 IsLeftAgain first zero last = last ≡ first
 IsLeftAgain first (suc openings) last = (mid : CrashState) × IsLeftAgain first openings mid × Contains (left_by_opening mid) last

@@ -12,7 +12,7 @@ pub record Planned : Type 0 where
   pub log : ℕ
   pub manifest : Contents
 
--- what the sectors of a manifest of version 2 say; no other sectors are asked
+-- what the sectors of a manifest of version 2 say; an empty manifest for other sectors
 abbrev pub contents_in : List ℕ → Contents
 contents_in text = unwrap_or (manifest_of Two text) (record { generation = 0; base = 0; next_table = 0; runs = 0; logs = []; tables = [] })
 

@@ -29,7 +29,7 @@ named (Some s) = Names s
 unfoldable pub reading_of : List ℕ → Reading
 reading_of sector = if bytes_eq sector blank then Blank else named (superblock_of sector)
 
--- generation g stands in sector g mod 2
+-- the superblock of generation g is in sector g mod 2
 abbrev pub in_slot : ℕ → Reading → Reading
 in_slot slot Blank = Blank
 in_slot slot Broken = Broken
@@ -75,18 +75,18 @@ pub data Root : Type 0 where
   Missing : Root
   -- no superblock counts
   Damaged : Root
-  -- the one that counts is of a device of another size, or there is no place for two
+  -- the one that counts is of a device of another size, or there is no room for two
   OtherSize : Root
   -- the sectors that it names spell no manifest, or one that it may not name
   Unreadable : Root
   -- LOG and the manifest
   Stands : (log : ℕ) (manifest : Contents) → Root
 
--- whether a table's extent lies in a data area of so many blocks
+-- whether a table's extent is inside a data area of `blocks` blocks
 abbrev pub lies_inside : ℕ → TableRecord → Bool
 lies_inside blocks t = nat_le (extent_end t) blocks
 
--- whether a superblock may name a manifest: it is of the superblock's generation, and its tables lie in the data area
+-- whether a superblock may name a manifest: it is of the superblock's generation, and its tables are in the data area
 abbrev pub may_name : Superblock → Contents → Bool
 may_name s c = (c.generation == s.generation) && list_all (lies_inside (data_blocks_of s.sectors s.log_sectors)) c.tables
 

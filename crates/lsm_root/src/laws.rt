@@ -9,8 +9,8 @@ ghost use Rattle.lsm_root.specs.Installed.{IsNext, IsSettled, IsReady};
 ghost use Rattle.lsm_root.specs.Roots.{Names, Stands, superblock_in, root_of};
 
 /// Laws of the root, for callers' proofs; it does nothing. The root is what the first 130 sectors make of it, writes
-/// behind them and crashes leave it, and a root that stands is within the limits, in the version of its superblock, its tables
-/// lie in the data area, and it names the next generation.
+/// after them and crashes leave it unchanged, and a valid root is within the limits, in the version of its superblock, its tables
+/// are in the data area, and the generation after its own is the next.
 pub fn root_laws()
     ensures front { (c e : List (List ℕ)) → length c ≡ length e → take 130 c ≡ take 130 e → (root_of c ≡ root_of e) × (superblock_in c ≡ superblock_in e) }
     ensures crash { (d : Disk) → IsSettled d → (mask : List Bool) → root_of (image mask d) ≡ root_of (seen d) }

@@ -21,8 +21,8 @@ use std::marker::Model;
 
 const LAST_GENERATION: u64 = 1 << 63;
 
-/// The root of the next generation, with all that is to be written of it, in version 2 of the format. Contracts see the size of the device, LOG and
-/// what the manifest says.
+/// The root of the next generation, with all that is to be written of it, in version 2 of the format. Contracts see the size of the
+/// device, LOG and what the manifest says.
 #[derive(Drop)]
 pub struct NextRoot<A: Allocator = Global> {
     superblock: Superblock,
@@ -40,9 +40,9 @@ impl<A: Allocator> Model for NextRoot<A> {
 }
 
 impl<A: Allocator> NextRoot<A> {
-    /// Takes all memory that the installation of the manifest's root needs, for a device of so many sectors. Up to generation
-    /// 2^63 the manifest is within its limits, each record tells the deletes of its table, and the tables lie in the data area. No device is called. `Exhausted` just
-    /// where the generation is above 2^63; else only want of memory refuses, with `NoMemory`.
+    /// Takes all memory that the installation of the manifest's root needs, for a device of `sectors` sectors. Up to generation 2^63
+    /// the manifest must be within its limits, each record with the deletes of its table, and the tables in the data area. No device is
+    /// called. `Exhausted` exactly where the generation is above 2^63; else the only error is `NoMemory`.
     pub fn prepare(
         alloc: A,
         sectors: u32,
@@ -77,13 +77,13 @@ impl<A: Allocator> NextRoot<A> {
     pub fn install<D: Device>(&self, device: &mut D) -> Result<(), Fault>
         requires same_device { (D.medium device.old).size ≡ self.now.size }
 
-        // Where its generation comes next, a crash at any moment leaves the old root, and behind it what a crash may have left
-        // when the call began, or this root, and then all that pended stands.
+        // Where its generation comes next, a crash at any moment leaves the old root, and after it what a crash may have left
+        // when the call began, or this root, and then all that pended is durable.
         ensures any_moment { IsTrue (D.medium device.old).lasting.tells → IsReady (D.medium device.old).size self.now.log self.now.manifest.generation (disk (D.medium device.old)) → EachSince
             (Leaves (IsOldOrNew (disk (D.medium device.old)) (Stands self.now.log self.now.manifest)))
             (D.medium device.old).history (D.medium device.new).history }
 
-        // Behind the root nothing is written, but what pended may stand.
+        // After the root's sectors nothing is written, but what pended may become durable.
         ensures behind { IsTrue (D.medium device.old).lasting.tells → IsReady (D.medium device.old).size self.now.log self.now.manifest.generation (disk (D.medium device.old)) → EachSince (KeepsBehind (disk (D.medium device.old)))
             (D.medium device.old).history (D.medium device.new).history }
         ensures installed { IsTrue (D.medium device.old).lasting.tells → IsReady (D.medium device.old).size self.now.log self.now.manifest.generation (disk (D.medium device.old)) → OnOk result
@@ -117,7 +117,7 @@ impl<A: Allocator> NextRoot<A> {
 }
 
 /// Prepares the manifest's root and installs it. A crash at any moment leaves the old root or the new one. `Exhausted` comes
-/// before any device call, just where the generation is above 2^63.
+/// before any device call, exactly where the generation is above 2^63.
 pub fn install<A: Allocator, D: Device>(
     alloc: A,
     device: &mut D,
@@ -129,13 +129,13 @@ pub fn install<A: Allocator, D: Device>(
     requires valid { manifest.now.generation ≤ 2 ^ 63 → IsManifestOf Two manifest.now }
     requires inside { manifest.now.generation ≤ 2 ^ 63 → LieInside (D.medium device.old).size log_sectors manifest.now.tables }
 
-    // A crash at any moment leaves the old root, and behind it what a crash may have left when the call began, or the
-    // new root, and then all that pended stands.
+    // A crash at any moment leaves the old root, and after it what a crash may have left when the call began, or the
+    // new root, and then all that pended is durable.
     ensures any_moment { IsTrue (D.medium device.old).lasting.tells → EachSince
         (Leaves (IsOldOrNew (disk (D.medium device.old)) (Stands log_sectors manifest.now)))
         (D.medium device.old).history (D.medium device.new).history }
 
-    // Behind the root nothing is written, but what pended may stand.
+    // After the root's sectors nothing is written, but what pended may become durable.
     ensures behind { IsTrue (D.medium device.old).lasting.tells → EachSince (KeepsBehind (disk (D.medium device.old)))
         (D.medium device.old).history (D.medium device.new).history }
     ensures installed { IsTrue (D.medium device.old).lasting.tells → OnOk result

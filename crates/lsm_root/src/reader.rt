@@ -69,7 +69,7 @@ fn is_followed_by(superblock: &Superblock, later: &Superblock) -> bool
                 && may_follow(superblock.version, later.version)))
 }
 
-// The superblock that counts.
+// The newer of the two valid superblocks, or the lone one.
 fn newer(even: &[u8; 512], odd: &[u8; 512]) -> Result<Superblock, Refusal>
     ensures { TellsSuperblock (newer (in_slot 0 (reading_of even.now)) (in_slot 1 (reading_of odd.now))) result }
 {
@@ -90,7 +90,7 @@ fn newer(even: &[u8; 512], odd: &[u8; 512]) -> Result<Superblock, Refusal>
     }
 }
 
-// Reads the superblock that counts.
+// Reads both superblocks, and returns the one that counts.
 fn read_superblock<D: Device>(device: &mut D) -> Result<Superblock, Refusal>
     requires large { 2 ≤ (D.medium device.old).size }
     ensures told { IsTrue (D.medium device.old).lasting.tells → TellsCounted (superblock_in (seen (disk (D.medium device.old)))) result }
@@ -111,7 +111,7 @@ fn read_superblock<D: Device>(device: &mut D) -> Result<Superblock, Refusal>
     Ok(superblock)
 }
 
-// Reads it where it is of a device of this size.
+// Reads the superblock that counts; `BadGeometry` where it is not of a device of this size.
 fn own_superblock<D: Device>(device: &mut D) -> Result<Superblock, Refusal>
     ensures told { IsTrue (D.medium device.old).lasting.tells → IfOk result (λ s. superblock_in (seen (disk (D.medium device.old))) ≡ Names s) }
     ensures why { IsTrue (D.medium device.old).lasting.tells → IfErr result (λ refusal.
@@ -127,11 +127,11 @@ fn own_superblock<D: Device>(device: &mut D) -> Result<Superblock, Refusal>
     ensures same_lasting { (D.medium device.new).lasting ≡ (D.medium device.old).lasting }
 {
     if device.sectors() < SUPERBLOCKS {
-        return Err(Refusal::BadGeometry); // There is no place for them.
+        return Err(Refusal::BadGeometry); // There is no room for two superblocks.
     }
     let superblock = read_superblock(device)?;
     if superblock.sectors != device.sectors() {
-        return Err(Refusal::BadGeometry); // It is another device's.
+        return Err(Refusal::BadGeometry); // It is for a device of another size.
     }
     Ok(superblock)
 }
@@ -160,7 +160,7 @@ fn read_text<A: Allocator + Clone, D: Device>(
     Ok(text)
 }
 
-// What a text says that the superblock names.
+// Decodes and checks the manifest text that the superblock names.
 fn loaded_from<A: Allocator + Clone>(
     alloc: A,
     superblock: &Superblock,
@@ -190,17 +190,17 @@ fn loaded_from<A: Allocator + Clone>(
     })
 }
 
-/// Reads the root, by at most 66 reads. It answers what the root of the device's sectors is: LOG and the manifest of the
+/// Reads the root, by at most 66 reads. It returns what the root of the device's sectors is: LOG and the manifest of the
 /// greater generation, in the version of its superblock, with the tables that it names, or why there is none; or `NoMemory`,
 /// or `Io` where a read failed.
 ///
-/// `NotAStore` where both superblocks are blank, `BadSuper` where else none of them counts, `BadGeometry` where the one that
-/// counts is another device's, and `BadManifest` where its sectors spell no manifest, one of another generation, or one
-/// with a table that doesn't lie in the data area.
+/// `NotAStore` where both superblocks are blank, `BadSuper` where one is invalid or neither follows the other, `BadGeometry` where the
+/// one that counts is for a device of another size, or there is no room for two, and `BadManifest` where its sectors spell no
+/// manifest, one of another generation, or one with a table that isn't inside the data area.
 pub fn load<A: Allocator + Clone, D: Device>(alloc: A, device: &mut D) -> Result<Loaded<A>, Refusal>
     ensures loaded { IsTrue (D.medium device.old).lasting.tells → Tells (root_of (seen (disk (D.medium device.old)))) result }
 
-    // So it is of any device, whether it tells what it holds or not.
+    // This holds of any device, whether it tells contracts what it holds or not.
     ensures fits { IfOk result (λ l. IsGeometry (D.medium device.old).size l.log_sectors × IsManifest l.manifest) }
     ensures inside { IfOk result (λ l. LieInside (D.medium device.old).size l.log_sectors l.manifest.tables) }
     ensures refused { IfErr result (λ refusal. ((root : Root) × (refusal_of root ≡ Some refusal)) ⊎ ((refusal ≡ Refusal.NoMemory) ⊎ (refusal ≡ Refusal.Io))) }

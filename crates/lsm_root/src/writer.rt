@@ -39,7 +39,7 @@ fn write_text<D: Device>(device: &mut D, at: u32, text: &[u8], parts: u16) -> Re
     Ok(())
 }
 
-// Writes the manifest's text and makes it stand, and then the superblock.
+// Writes and syncs the manifest's text, and then the superblock.
 pub(crate) fn switch<D: Device>(
     device: &mut D,
     generation: u64,
@@ -65,8 +65,8 @@ pub(crate) fn switch<D: Device>(
 {
     let slot = (generation % 2) as u32;
     write_text(device, SUPERBLOCKS + AREA_SECTORS * slot, text, parts)?;
-    device.sync()?; // The manifest stands.
+    device.sync()?; // The manifest is durable.
     device.write(slot, superblock)?;
-    device.sync()?; // So does the superblock.
+    device.sync()?; // So is the superblock.
     Ok(())
 }
