@@ -32,7 +32,7 @@ module _ (P : BlockName × List ℕ → Type 0) (name : BlockName) (bytes : List
       after
 
 module _ (place : BlockName → Option ℕ) (sectors : List (List ℕ)) (name : BlockName) (at : ℕ) (out : List ℕ) (c : Cached) (stands : place name ≡ Some at) (fresh : IsFresh place sectors c) where
-  -- a block that a fresh cache keeps is the one that stands there
+  -- a block that a fresh cache keeps is the one at its place
   pub kept_fresh : bytes_of name c ≡ Some out → out ≡ block_at sectors at
   kept_fresh is =
       let kept : IfSome (place name) (λ n. out ≡ block_at sectors n) = All-bytes_of (λ b. IfSome (place b.0) (λ n. b.1 ≡ block_at sectors n)) name out c fresh is in

@@ -89,7 +89,7 @@ module _ {A : Type 0} (eq : BlockName → BlockName → Bool) (same : (a b : Blo
       let fits : length ((name, b.value) ∷ others name (map named_bytes c.entries)) ≤ c.cap = rw (← rest) (simp length-map (omega (arith, valid.1))) in
       rw entry (ap (λ l. (name, b.value) ∷ l) rest ∙ sym (take_all c.cap ((name, b.value) ∷ others name (map named_bytes c.entries)) fits))
 
-  -- one that is put goes to the front too, and the last falls off
+  -- one that is put goes to the front too, and the last is evicted
   pub entered : (c : LruCache BlockName (Box (List ℕ) A)) (b : Box (List ℕ) A) (cap : ℕ) → 0 < cap → lookup (eq name) c.entries ≡ None → c.cap ≡ cap →
       map named_bytes (put_entries eq c name b) ≡ take cap ((name, b.value) ∷ others name (map named_bytes c.entries))
   entered c b zero low none is = absurd (omega arith)

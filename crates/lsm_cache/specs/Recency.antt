@@ -26,7 +26,7 @@ bytes_of name c = lookup (is_same_block name) c.blocks
 abbrev pub sectors_read : BlockName → Cached → ℕ
 sectors_read name c = if is_some (bytes_of name c) then 0 else 8
 
--- the block goes to the front, and the last one falls off where there are too many
+-- the block goes to the front, and where there are too many the last one is evicted
 abbrev pub asked : BlockName → List ℕ → Cached → Cached
 asked name bytes c = record c { blocks = take c.capacity ((name, bytes) ∷ filter (λ b. not (is_same_block name b.0)) c.blocks) }
 

@@ -51,10 +51,10 @@ impl<A: Allocator + Clone> Cache<A> {
         })
     }
 
-    /// Gives a block of a table, which lies in the eight sectors from `sector` on: the bytes that are kept, or else those of
-    /// the device. It is the last one asked for then: it goes to the front of those that are kept, and the last of them falls
-    /// off where there are too many. A block for which there is no memory is given all the same, and counted among the
-    /// refusals. A read that faults ends the call with `Io`; then `out` may have changed, and the cache has not. A block that
+    /// Reads a block of a table, which is in the eight sectors from `sector` on: from the cache, or else from the device. It
+    /// is then the most recently used block, and where there are too many the least recently used one is evicted. A block for
+    /// which there is no memory is read all the same, but not kept, and counted among the refusals. A read that faults ends
+    /// the call with `Io`; then `out` may have changed, and the cache has not. A block that
     /// is kept takes no memory.
     pub fn get<D: Device>(
         &mut self,
@@ -66,17 +66,17 @@ impl<A: Allocator + Clone> Cache<A> {
     ) -> Result<(), Refusal>
         requires { sector + 8 ≤ (D.medium device.old).size }
 
-        // The block that is kept is given, whatever the device holds, and else that of the device.
+        // A block that is kept is read from the cache, whatever the device holds, and any other from the device.
         ensures kept { OnOk result (IfSome (bytes_of (named_block table block) self.old) (λ bytes. out.new ≡ bytes)) }
         ensures read { IsTrue (D.medium device.old).lasting.tells → OnOk result (bytes_of (named_block table block) self.old ≡ None
             → out.new ≡ block_at (seen (disk (D.medium device.old))) sector) }
 
-        // It is the last one asked for.
+        // It is then the most recently used block, unless memory for it was refused.
         ensures keeps { OnOk result (IsAsked (named_block table block) out.new self.old self.new) }
         ensures stays { OnErr result (self.new ≡ self.old) }
         ensures same_capacity { self.new.capacity ≡ self.old.capacity }
 
-        // Where blocks are those of the device, so is this one, and they go on to be.
+        // Where the kept blocks are those of the device, so is this one, and they are so after the call.
         ensures answers { (place : Name → Option ℕ) → place (named_block table block) ≡ Some sector
             → IsTrue (D.medium device.old).lasting.tells → IsFresh place (seen (disk (D.medium device.old))) self.old
             → OnOk result (out.new ≡ block_at (seen (disk (D.medium device.old))) sector) }
@@ -85,7 +85,7 @@ impl<A: Allocator + Clone> Cache<A> {
             → IsFresh place (seen (disk (D.medium device.new))) self.new }
         ensures numbered { (number : ℕ) → table < number → IsNumberedBelow number self.old → IsNumberedBelow number self.new }
 
-        // It is refused only for a read that faulted, its last call, of a block that isn't kept.
+        // It fails only where a read faulted, its last call, of a block that isn't kept.
         ensures refused { IfErr result (λ refusal. refusal ≡ Refusal.Io) }
         ensures absent { OnErr result (bytes_of (named_block table block) self.old ≡ None) }
         ensures faulted { OnErr result (FaultsAmong 8 (D.medium device.old).calls (D.medium device.new).calls) }
@@ -116,7 +116,7 @@ impl<A: Allocator + Clone> Cache<A> {
         self.refusals
     }
 
-    /// Gives a block that is kept, which goes to the front.
+    /// Reads a block that is kept, which is then the most recently used one. Returns whether it is kept.
     fn find(&mut self, name: BlockName, out: &mut [u8; 4_096]) -> bool
         ensures found { OnTrue result (bytes_of name self.old ≡ Some out.new) }
         ensures keeps { OnTrue result (self.new ≡ asked name out.new self.old) }

@@ -7,7 +7,7 @@ ghost use Rattle.lsm_cache.specs.Reads.{block_at, after_reads, FaultsAmong};
 
 use lsm_device::{Device, Fault};
 
-/// Reads the block that lies in the eight sectors from `sector` on, past any cache, by one call of the device. After a fault
+/// Reads the block in the eight sectors from `sector` on, past any cache, by one call of the device. After a fault
 /// `out` may have changed.
 pub fn read_block<D: Device>(
     device: &mut D,

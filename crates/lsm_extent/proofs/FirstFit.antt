@@ -15,7 +15,7 @@ use Rattle.lsm_extent.proofs.Counting.{covers_inside, covers_after}
 pub record IsUnheld (first blocks : ℕ) (es : List Extent) : Type 0 where
   pub each : (k : ℕ) → first ≤ k → k < first + blocks → is_held es k ≡ false
 
--- The lowest fit among extents that lie between two blocks, and what is left once it is taken.
+-- The lowest fit among extents that are between two blocks, and what is left once it is taken.
 pub record IsFirstFit (from to blocks : ℕ) (es : List Extent) (first : ℕ) : Type 0 where
   pub low : from ≤ first
   pub inside : first + blocks ≤ to
@@ -27,7 +27,7 @@ pub record IsFirstFit (from to blocks : ℕ) (es : List Extent) (first : ℕ) : 
 abbrev run : ℕ → ℕ → Extent
 run first blocks = record { first = first; blocks = blocks }
 
--- a run that no extent holds does not end behind the first block of one without beginning behind it
+-- a run that no extent holds does not end after the first block of one without beginning after it
 passes : (other blocks : ℕ) (e : Extent) (es : List Extent) → 0 < blocks → 0 < e.blocks → e.first < other + blocks → IsUnheld other blocks (e ∷ es) → e.first + e.blocks ≤ other
 passes other blocks e es nonempty some reach unheld = elim (cases_lt other (e.first + e.blocks)) [
   | inl under ↦ elim (cases_lt other e.first) [
@@ -76,7 +76,7 @@ fit_later from to blocks first e es laid nonempty short fit =
       left = λ n. subst (S n) (sym with_it) (omega (arith, fit.left n));
     }
 
--- where a gap has so many blocks there is a lowest fit
+-- where a gap has `blocks` blocks there is a lowest fit
 pub first_fit : (from to blocks : ℕ) (es : List Extent) → IsLaid from to es → 0 < blocks → 0 < starts blocks (gaps_between from to es) → (first : ℕ) × IsFirstFit from to blocks es first
 first_fit from to blocks [] laid nonempty room =
     let fit : IsFirstFit from to blocks [] from = record {

@@ -26,7 +26,7 @@ gap_is from area (suc place) [] within = absurd (omega arith)
 gap_is from area zero (e ∷ es) within = refl
 gap_is from area (suc place) (e ∷ es) within = gap_is (e.first + e.blocks) area place es (omega arith)
 
--- none stands behind the last one
+-- no gap comes after the last one
 pub no_gap : (from area place : ℕ) (held : List Extent) → length held < place → slice_get (gaps_between from area held) place ≡ None
 no_gap from area zero held past = absurd (omega arith)
 no_gap from area (suc place) [] past = refl
@@ -52,13 +52,13 @@ pub starts_here : (held : List Extent) (area from blocks i : ℕ) (d : Extent) �
     ≡ (((((get_or held i d).first - from) + 1) - blocks) + starts blocks (gaps_between ((get_or held i d).first + (get_or held i d).blocks) area (drop (i + 1) held)))
 starts_here held area from blocks i d within = ap (λ (es : List Extent). starts blocks (gaps_between from area es)) (drop_more held i d within)
 
--- and the one behind the last
+-- and the one after the last
 pub starts_last : (held : List Extent) (area from blocks i : ℕ) → length held ≤ i → starts blocks (gaps_between from area (drop i held)) ≡ ((area - from) + 1) - blocks
 starts_last held area from blocks i past =
     let all : starts blocks (gaps_between from area (drop i held)) ≡ starts blocks (gaps_between from area []) = ap (λ (es : List Extent). starts blocks (gaps_between from area es)) (drop_all i held past) in
     omega (arith, all)
 
--- The gaps in front of a place have at most so many blocks each, and one has as many.
+-- The gaps before a place have at most `longest` blocks each, and one has as many.
 pub record IsLongestBefore (held : List Extent) (area from longest : ℕ) : Type 0 where
   pub fits : 0 < longest → (first : ℕ) × IsFreeRun (record { blocks = area; held = held }) first longest
   pub passed : (first : ℕ) → IsFreeRun (record { blocks = area; held = held }) first (longest + 1) → from ≤ first

@@ -35,7 +35,7 @@ pub split_from_test : (block place : ℕ) (es : List Extent) → IsPartitionPoin
     → IsPartitionPoint (λ x. x.first < block) (λ x. block ≤ x.first) es place
 split_from_test block place es split = (λ k d from below. ltb-true _ _ (split.0 k d from below), λ k d from below. ltb-false _ _ (split.1 k d from below))
 
--- an extent stands behind those that begin before it, and in front of all others
+-- an extent is after those that begin before it, and before all others
 pub found : (area place : ℕ) (e : Extent) (held : List Extent) → IsLaid 0 area held → Contains held e → IsPartitionPoint (λ x. x.first < e.first) (λ x. e.first ≤ x.first) held place
     → (place < length held) × (get_or held place e ≡ e)
 found area place e held laid among split =

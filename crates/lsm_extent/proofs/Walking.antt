@@ -1,4 +1,4 @@
--- Walks along extents that lie one after the other, and the free blocks between them.
+-- Walks along extents that are one after the other, and the free blocks between them.
 use Rattle.std.proofs.Common.{ℕ, zero, suc, ◌+◌, ◌-◌, ◌<◌, ◌≤◌, true, false, not, ◌||◌, leb, ltb, ◌≡◌, List, [], ◌∷◌, ◌++◌, length, take, drop, get_or, refl, sym, ◌∙◌, ap, subst, arith, inl, inr}
 use Rattle.std.proofs.lemmas.Bool.{ltb-true, lt-ltb, le-leb, lt-leb, le-ltb, and_parts, and_from, and_left, and_right, or_from, not_from_false, not-true, cases_lt, both_ways}
 use Rattle.std.proofs.lemmas.List.{drop_more, take_more, drop_all, take-append-drop}

@@ -3,7 +3,7 @@ use Rattle.std.specs.Prelude.{ℕ, ◌+◌, ◌<◌, ◌≤◌, zero, suc, Bool,
 use Rattle.std.specs.List.{list_any}
 use Rattle.lsm_extent.specs.declared.extent.Extent.{Extent}
 
--- The blocks are numbered from 0; the extents stand by their first blocks.
+-- The blocks are numbered from 0; the extents are sorted by their first blocks.
 pub record Area : Type 0 where
   pub blocks : ℕ
   pub held : List Extent
@@ -24,7 +24,7 @@ is_free area block = ltb block area.blocks && not (is_held area.held block)
 pub record IsFreeRun (area : Area) (first blocks : ℕ) : Type 0 where
   pub each : (k : ℕ) → first ≤ k → k < first + blocks → is_free area k ≡ true
 
--- The lowest free run of so many blocks is here.
+-- The lowest free run of `blocks` blocks begins at `first`.
 pub record IsLowestFit (area : Area) (blocks first : ℕ) : Type 0 where
   pub fits : IsFreeRun area first blocks
   pub lowest : (other : ℕ) → IsFreeRun area other blocks → first ≤ other

@@ -42,7 +42,7 @@ impl<A: Allocator> Extents<A> {
         Extents { blocks, held }
     }
 
-    /// Hands out the lowest free run of this many blocks, at least 1. It is refused with `NoSpace` exactly where no free
+    /// Hands out the lowest free run of this many blocks, at least 1. Fails with `NoSpace` exactly where no free
     /// run is that long, or else with `NoMemory`; then nothing has changed.
     pub fn take(&mut self, blocks: u32) -> Result<Extent, Refusal>
         requires nonempty { 0 < blocks }
@@ -65,8 +65,8 @@ impl<A: Allocator> Extents<A> {
     }
 
     /// Hands out the blocks from `first` on, this many and at least 1: `None` exactly where one of them is not free or
-    /// lies outside the area. It is refused with `NoMemory` alone, and only where they are free. Where it gives none or
-    /// is refused, nothing has changed.
+    /// is outside the area. Fails with `NoMemory` alone, and only where they are free. Where it returns `None` or
+    /// fails, nothing has changed.
     pub fn claim(&mut self, first: u32, blocks: u32) -> Result<Option<Extent>, Refusal>
         requires nonempty { 0 < blocks }
         ensures claimed { IfOk result (λ given. SomeIff given (IsFreeRun self.old first blocks) (record { first = first; blocks = blocks })) }
@@ -100,15 +100,15 @@ impl<A: Allocator> Extents<A> {
         free_among(&self.held, self.blocks)
     }
 
-    /// The gap in front of the extent at this place, from 0 on, or behind the last one: `None` at any place beyond. Its blocks
-    /// are free, and the ones beside it are not; between neighbours it has no blocks. It takes no memory.
+    /// The gap before the extent at this place, counted from 0, or after the last one: `None` at any place beyond. Its blocks
+    /// are free, and the ones next to it are not; between neighbours it has no blocks. It takes no memory.
     pub fn gap(&self, place: usize) -> Option<Extent>
         ensures { result ≡ slice_get (gaps self.now) place }
     {
         gap_at(&self.held, self.blocks, place)
     }
 
-    /// How many gaps there are: one in front of each extent, and one behind the last. It takes no memory.
+    /// How many gaps there are: one before each extent, and one after the last. It takes no memory.
     pub fn gap_count(&self) -> usize
         ensures { result ≡ length (gaps self.now) }
     {
@@ -123,8 +123,8 @@ impl<A: Allocator> Extents<A> {
     }
 
     /// Whether runs of at most `largest` blocks each, and `total` in all, are sure to find room one after the other, each in
-    /// the lowest free run of its blocks, whatever their sizes and their order: some gap has `largest` blocks, and there are
-    /// `total` besides those that may stay free where none has as many. It takes no memory.
+    /// the lowest free run that fits, whatever their sizes and their order: some gap has `largest` blocks, and `total` is less than
+    /// `largest` plus the number of blocks at which a run of `largest` may begin. It takes no memory.
     pub fn surely_places(&self, total: u64, largest: u32) -> bool
         ensures test { result ≡ has_sure_room self.now total largest }
         ensures sure { result ≡ true → SurelyFit self.now total largest }

@@ -1,4 +1,4 @@
-//! The gaps between the extents that are handed out, which stand by their first blocks.
+//! The gaps between the extents that are handed out, which are sorted by their first blocks.
 
 ghost use Rattle.std.specs.Prelude.{◌≡◌, ◌<◌, ◌≤◌, ◌+◌, length, take, drop, slice_get, MatchOption, MatchBool};
 ghost use Rattle.std.specs.List.Sorted.{IsNonDecreasingBy, IsPartitionPoint};
@@ -8,14 +8,14 @@ ghost use Rattle.lsm_extent.specs.Laid.{IsLaid, IsGap, end_of, start_of};
 
 use crate::Extent;
 
-/// Free blocks: the place among the extents that one of them would get, and the first of them.
+/// Free blocks: the place that an extent of them would get among the others, and the first of them.
 #[derive(Clone, Copy)]
 pub(crate) struct Gap {
     pub(crate) place: usize,
     pub(crate) first: u32,
 }
 
-/// Whether there are so many blocks from one up to another.
+/// Whether there are `blocks` blocks from one up to another.
 fn has_room(from: u32, to: u32, blocks: u32) -> bool
     ensures { MatchBool result (from + blocks ≤ to) (to < from + blocks) }
 {
@@ -54,7 +54,7 @@ pub(crate) fn begun_before(held: &[Extent], block: u32) -> usize
     held.partition_point(|extent: &Extent| extent.first < block)
 }
 
-/// The first block behind the extents in front of this place.
+/// The first block after the extents before this place.
 fn end_before(held: &[Extent], area: u32, place: usize) -> u32
     requires laid { IsLaid 0 area held.now }
     requires within { place ≤ length held.now }
@@ -66,7 +66,7 @@ fn end_before(held: &[Extent], area: u32, place: usize) -> u32
     }
 }
 
-/// The first block of the extent at this place, or the end of the area behind the last one.
+/// The first block of the extent at this place, or the end of the area after the last one.
 fn next_from(held: &[Extent], area: u32, place: usize) -> u32
     ensures { result ≡ start_of area (drop place held.now) }
 {
@@ -76,7 +76,7 @@ fn next_from(held: &[Extent], area: u32, place: usize) -> u32
     }
 }
 
-/// The gap in front of the extent at this place, or behind the last one.
+/// The gap before the extent at this place, or after the last one.
 pub(crate) fn gap_at(held: &[Extent], area: u32, place: usize) -> Option<Extent>
     requires laid { IsLaid 0 area held.now }
     ensures { result ≡ slice_get (gaps_between 0 area held.now) place }

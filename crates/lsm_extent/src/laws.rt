@@ -2,8 +2,8 @@
 
 ghost use Rattle.lsm_extent.specs.Laws.{ExtentLaws};
 
-/// An extent that is handed out is among those that are, its blocks are held besides theirs, and to give it back changes
-/// nothing.
+/// An extent that is handed out is among those that are, its blocks are held besides theirs, and giving it back undoes
+/// that.
 pub fn extent_laws()
     ensures { ExtentLaws }
 {}

@@ -14,14 +14,14 @@ pub(crate) fn count_gaps(held: &[Extent], area: u32) -> usize
     held.len() + 1
 }
 
-/// At how many blocks of a gap a run of so many blocks may begin.
+/// At how many blocks of a gap a run of `blocks` blocks may begin.
 fn starts_in(gap: u32, blocks: u32) -> u64
     ensures { result ≡ (gap + 1) - blocks }
 {
     (u64::from(gap) + 1).saturating_sub(u64::from(blocks))
 }
 
-/// At how many blocks of all gaps a run of so many blocks may begin.
+/// At how many blocks of all gaps a run of `blocks` blocks may begin.
 pub(crate) fn starts_among(held: &[Extent], area: u32, blocks: u32) -> u64
     requires laid { IsLaid 0 area held.now }
     ensures value { result ≡ starts blocks (gaps_between 0 area held.now) }
@@ -36,7 +36,7 @@ pub(crate) fn starts_among(held: &[Extent], area: u32, blocks: u32) -> u64
     starts + starts_in(area - from, blocks)
 }
 
-/// Whether all blocks find room besides those that may stay free where a run of the largest size fits no more.
+/// Whether runs of at most `largest` blocks, `total` in all, surely fit where one of `largest` may begin at `starts` blocks.
 pub(crate) fn is_sure(starts: u64, total: u64, largest: u32) -> bool
     requires { starts ≤ 2 ^ 32 }
     ensures { result ≡ (ltb 0 starts && ltb total (starts + largest)) }

@@ -133,7 +133,7 @@ pub with_all_keys : {X : Type 0} (now : X → List ℕ) (bytes : List ℕ) (keys
     → fold with_key bytes (take i (map now keys)) ≡ fold with_key bytes (map now keys)
 with_all_keys now bytes keys i past = ap (fold with_key bytes) (take_all i (map now keys) (omega (arith, length-map keys now)))
 
--- each key has all its bits set, of keys behind references
+-- each key has all its bits set, for keys given by reference
 pub member_of : {X : Type 0} (now : X → List ℕ) (keys : List X) (i : ℕ) (d : X) → i < length keys → is_perhaps (filter_of (map now keys)) (now (get_or keys i d)) ≡ true
 member_of now keys i d within =
     ap (is_perhaps (filter_of (map now keys))) (sym (get_or-map now keys i d [] within)) ∙ member (map now keys) i (omega (arith, length-map keys now))

@@ -78,7 +78,7 @@ impl<A: Allocator> Filter<A> {
         self.perhaps_hashed(KeyHash::of(key))
     }
 
-    /// What [`Filter::perhaps`] answers for the keys that have this hash. It takes no memory, and reads no key.
+    /// What [`Filter::perhaps`] returns for the keys that have this hash. It takes no memory, and reads no key.
     pub fn perhaps_hashed(&self, hash: KeyHash) -> bool
         ensures { result ≡ has_bits self.now hash }
     {

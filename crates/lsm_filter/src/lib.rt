@@ -1,4 +1,4 @@
-//! A filter of keys: a block of bits that tells of a key that it is not among those that were put in, or that perhaps it
+//! A Bloom filter of keys: a block of bits that shows that a key is not among those that were put in, or that perhaps it
 //! is.
 #![tactic(auto)]
 

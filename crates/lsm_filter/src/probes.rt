@@ -11,7 +11,7 @@ const FNV_PRIME: u64 = 1_099_511_628_211;
 
 const FILTER_BITS: u64 = 32_768;
 
-/// The turns in which a key gets its bits.
+/// The probes of a key, each of which gives one bit.
 pub(crate) const TURNS: [u64; 7] = [0, 1, 2, 3, 4, 5, 6];
 
 /// The hash of a key. Any number of filters can be asked of a key by it, with the key hashed once. Contracts see the number.
@@ -40,7 +40,7 @@ impl KeyHash {
     }
 }
 
-/// The bit that a hash gives in a turn.
+/// The bit that a hash gives for probe `turn`.
 pub(crate) fn probe_of(hash: KeyHash, turn: u64) -> usize
     requires { turn < 7 }
     ensures value { result ≡ probe hash turn }

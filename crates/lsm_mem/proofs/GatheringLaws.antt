@@ -1,4 +1,4 @@
--- What a page comes to, version by version.
+-- How a page is built, version by version.
 use Rattle.std.proofs.Common.{◌≡◌, ◌⊎◌, inl, inr, ⊎_elim, ℕ, ◌<◌, ◌≤◌, Bool, true, false, cond, ◌&&◌, leb, ltb, List, [], ◌∷◌, ◌++◌, length, Option, Some, None, IfSome, option_map, option_and_then, refl, ap, sym, subst, ◌∙◌, arith}
 use Rattle.std.specs.Prelude.{T}
 use Rattle.std.specs.List.{AllByRecursion}
@@ -26,7 +26,7 @@ use Rattle.lsm_mem.proofs.Paged.{not_below, whole_page, made}
 no : true ≡ false → ⊥
 no e = cc
 
--- what comes behind a version has a greater key, or the same key and a lesser number
+-- what comes after a version has a greater key, or the same key and a lesser number
 pub behind_cases : (v w : Version) → entry_order v w ≡ Less → (byte_order v.key w.key ≡ Less) ⊎ ((v.key ≡ w.key) × (w.number < v.number))
 behind_cases v w h = by (byte_order v.key w.key) refl h
   where
@@ -63,7 +63,7 @@ newest_all q n P (w ∷ vs) h = by (newest q n vs) (newest_all q n P vs h.1) (is
     by o k true false e = k
     by o k false b e = k
 
--- a version of another key, or with a greater number, tells nothing
+-- a version of another key, or with a greater number, changes nothing
 newest_without : (q : Bytes) (n : ℕ) (newer : List Version) (v : Version) (older : List Version) → is_version_of q n v ≡ false → newest q n (newer ++ v ∷ older) ≡ newest q n (newer ++ older)
 newest_without q n [] v older e = ap (λ b. cond b (Some (newer_of v (newest q n older))) (newest q n older)) e
 newest_without q n (w ∷ newer) v older e = ap (λ o. cond (is_version_of q n w) (Some (newer_of w o)) o) (newest_without q n newer v older e)
@@ -127,7 +127,7 @@ and_second : (a b : Bool) → b ≡ false → (a && b) ≡ false
 and_second true b e = e
 and_second false b e = refl
 
--- where nothing wanted changes, nothing does
+-- where the newest versions of the wanted keys stay, so do the pairs to come
 same_come : (g : Gathering) (xs ys : List Version) → ((q : Bytes) → wanted g q ≡ true → newest q g.at xs ≡ newest q g.at ys) → pairs_to_come g xs ≡ pairs_to_come g ys
 same_come g xs ys h = same_pairs (pairs_to_come g xs) (pairs_to_come g ys) (come_sorted g xs) (come_sorted g ys) (λ q. come_find g xs q ∙ by q (wanted g q) refl ∙ sym (come_find g ys q))
   where

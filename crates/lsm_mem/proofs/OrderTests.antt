@@ -10,7 +10,7 @@ use Rattle.std.specs.Ordering.{is_lt}
 use Rattle.lsm_codec.specs.Versions.{Version, entry_order, AreOrdered}
 use Rattle.lsm_codec.proofs.KeyOrder.{is_lt_Less}
 
--- whether a version stands before the first of these
+-- whether a version is before the first of these
 abbrev pub is_before : Version → List Version → Bool
 is_before v [] = true
 is_before v (w ∷ rest) = is_lt (entry_order v w)

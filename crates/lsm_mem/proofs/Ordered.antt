@@ -1,4 +1,4 @@
--- Versions stand in the order of entries, and within their limits.
+-- Versions are in the order of entries, and within their limits.
 use Rattle.std.proofs.Common.{◌≡◌, ℕ, ◌<◌, ◌≤◌, ◌^◌, List, [], ◌∷◌, ◌++◌, map, Option, Some, None, ap, sym, ◌∙◌, arith}
 use Rattle.std.proofs.lemmas.Cmp.{nat_list_cmp_total, tied_itself}
 use Rattle.std.proofs.lemmas.List.Elements.{All-from_recursion}
@@ -21,7 +21,7 @@ Before v w = entry_order v w ≡ Less
 abbrev AreBefore : Version → List Version → Type 0
 AreBefore v versions = AllByRecursion (Before v) versions
 
--- of one key the newer stands first
+-- of one key the newer comes first
 newer_first : (key : Bytes) (v w : Change) → w.number < v.number → Before (version key v) (version key w)
 newer_first key v w below =
     ap (λ o. ordering_then o (nat_cmp w.number v.number)) (tied_itself nat_list_cmp_total key) ∙ sym (nat_cmp_is w.number v.number Less below)

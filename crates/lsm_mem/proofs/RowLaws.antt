@@ -1,4 +1,4 @@
--- Rows stay where they lie while their text grows.
+-- Rows stay where they are while their text grows.
 use Rattle.std.proofs.Common.{◌≡◌, ◌≤◌, ℕ, ◌+◌, List, [], ◌∷◌, ◌++◌, length, map, take, drop, refl, sym, ◌∙◌, ap, subst, arith}
 use Rattle.std.specs.List.{AllByRecursion}
 use Rattle.std.proofs.lemmas.List.{take-append-le, drop-append-le, length-append, length-drop, map-append, append-nil}
@@ -40,7 +40,7 @@ module _ (text key value : Bytes) (places : List RowPlace) (h : AllByRecursion (
   rows_of_both : map (row_at ((text ++ key) ++ value)) places ≡ map (row_at text) places
   rows_of_both = rows_of_longer (text ++ key) value places (all_within_longer text key places h) ∙ rows_of_longer text key places h
 
-  -- the rows stay behind a key alone
+  -- the rows stay when a key alone is added
   pub rows_with_key : (longer : Bytes) → longer ≡ text ++ key → map (row_at longer) places ≡ map (row_at text) places
   rows_with_key longer is = ap (λ (t : Bytes). map (row_at t) places) is ∙ rows_of_longer text key places h
 
@@ -48,7 +48,7 @@ module _ (text key value : Bytes) (places : List RowPlace) (h : AllByRecursion (
     is_longer : longer ≡ (text ++ key) ++ value
     is_longer = second ∙ ap (λ (t : Bytes). t ++ value) first
 
-    -- and behind both
+    -- and when both are
     pub rows_stay : (after : List RowPlace) → after ≡ places → map (row_at longer) after ≡ map (row_at text) places
     rows_stay after same = ap (λ (t : Bytes). map (row_at t) after) is_longer ∙ ap (map (row_at ((text ++ key) ++ value))) same ∙ rows_of_both
 

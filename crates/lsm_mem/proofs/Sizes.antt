@@ -45,7 +45,7 @@ covers_one_more number operation versions old one mid first both covers =
           (all_map (λ w le. omega (arith, le, both.largest)) versions covers.each);
     }
 
--- A size covers what operations made so far of versions, and so many are left of them all.
+-- A size covers the versions `seen` so far; the operations `left` make of them what all operations make of `versions`.
 pub record CoversSoFar (number : ℕ) (all : List Operation) (versions : List Version) (left : List Operation) (size : MemSize) : Type 0 where
   pub seen : List Version
   pub covers : Covers seen size

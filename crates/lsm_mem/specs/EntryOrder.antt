@@ -18,7 +18,7 @@ abbrev pub with_batch : ℕ → List Operation → List Version → List Version
 with_batch number [] versions = versions
 with_batch number (operation ∷ rest) versions = with_batch number rest (placed (version_by number operation) versions)
 
--- versions with those of batches, the first of which has the number behind n
+-- versions with those of batches, which are numbered from n + 1 on
 abbrev pub with_batches : ℕ → List (List Operation) → List Version → List Version
 with_batches n [] versions = versions
 with_batches n (batch ∷ rest) versions = with_batches (n + 1) rest (with_batch (n + 1) batch versions)

@@ -23,16 +23,16 @@ pub record Gathering : Type 0 where
 abbrev pub gathering : ℕ → Option Bytes → ℕ → Gathering
 gathering at to limit = record { at = at; to = to; limit = limit; decided = None; rows = []; next = None }
 
--- whether a key is behind the one that was decided last
+-- whether a key is after the one that was decided last
 abbrev pub is_behind : Option Bytes → Bytes → Bool
 is_behind (Some decided) key = is_lt (byte_order decided key)
 is_behind None key = true
 
--- the pairs that are to come where these versions are left: those of their map behind the last key and before the end
+-- the pairs still to come where these versions are left: those of their map after the last decided key and before the end
 abbrev pub pairs_to_come : Gathering → List Version → List (Bytes × Bytes)
 pairs_to_come g left = filter (λ pair. is_behind g.decided pair.0 && is_before g.to pair.0) (finite.entries (map_of left g.at))
 
--- the page that comes where these versions are left
+-- the final page where these versions are left
 abbrev pub page_with : Gathering → List Version → Page
 page_with g left = first_page g.limit (g.rows ++ pairs_to_come g left)
 

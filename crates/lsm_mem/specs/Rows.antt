@@ -1,4 +1,4 @@
--- Rows that lie in one text.
+-- Rows in one text.
 use Rattle.std.specs.Prelude.{◌+◌, ◌≤◌, length, take, drop}
 use Rattle.lsm_codec.specs.Keys.{Bytes}
 use Rattle.lsm_mem.specs.declared.rows.RowPlace.{RowPlace}

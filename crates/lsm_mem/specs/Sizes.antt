@@ -19,7 +19,7 @@ bytes_of operation = 12 + length operation.key + value_length operation.value
 abbrev pub no_size : MemSize
 no_size = record { entries = 0; bytes = 0; large = 0; deletes = 0; delete_bytes = 0; largest = 0 }
 
--- A size covers versions: there are no more of them, of no more bytes together, and none is larger; unless its number is the greatest.
+-- A size covers versions: their count, their bytes in all and the bytes of each are at most its numbers, unless those are 2^64 - 1.
 pub record Covers (versions : List Version) (size : MemSize) : Type 0 where
   pub entries : up_to_64_bits (length versions) ≤ size.entries
   pub bytes : up_to_64_bits (sum_by entry_size versions) ≤ size.bytes
@@ -33,7 +33,7 @@ pub record GrowsBy (operations : List Operation) (old new : MemSize) : Type 0 wh
   pub deletes : new.deletes ≤ old.deletes + length operations
   pub delete_bytes : new.delete_bytes ≤ old.delete_bytes + sum_by bytes_of operations
 
--- The size of an entry of so many bytes, a delete or not.
+-- The size of an entry of `many` bytes, a put or a delete.
 pub record IsAnEntry (many : ℕ) (size : MemSize) : Type 0 where
   pub entries : size.entries ≡ 1
   pub bytes : size.bytes ≡ many

@@ -12,7 +12,7 @@ use lsm_codec::VersionRef;
 use std::alloc::{AllocError, Allocator, Global};
 use std::marker::Model;
 
-/// For how many rows there is room at first. A page that a store answers has no more.
+/// The rows there is room for at first. A page that a store returns has no more.
 const FIRST_ROWS: u64 = 64;
 
 /// A page that is being built of the versions of many places. They are taken in the order of entries: by key, and of a key
@@ -54,13 +54,13 @@ impl<'k, A: Allocator> PageBuilder<'k, A> {
     pub fn into_page(self) -> Page<A>
         ensures so_far { result ≡ page_so_far self.entry }
 
-        // Where the page goes on and no version is left, it is the whole page.
+        // Where the page hasn't ended and no version is left, it is the whole page.
         ensures whole { self.entry.next ≡ None → result ≡ page_with self.entry [] }
     {
         Page::of(self.rows, self.next)
     }
 
-    // Whether a key is behind the last one that was decided.
+    // Whether a key is after the last one that was decided.
     fn is_behind(&self, key: &[u8]) -> bool
         ensures { result ≡ is_behind self.now.decided key.now }
     {
@@ -103,12 +103,12 @@ impl<'k, A: Allocator + Clone> PageBuilder<'k, A> {
         })
     }
 
-    /// Takes the first of the versions that are left, and answers whether the page goes on: whether the next is wanted too.
-    /// Where memory is refused, the builder is of no more use.
+    /// Takes the first of the versions that are left, and returns whether the page goes on: whether the next is needed too.
+    /// Where memory is refused, the builder is to be dropped.
     pub fn take(&mut self, alloc: &A, version: VersionRef<'_>) -> Result<bool, AllocError>
         requires { self.old.next ≡ None }
 
-        // The page that comes is the same, with the version among those that are left before, and without it after.
+        // The final page stays the same: before the call the version is among those that are left, and after it no more.
         ensures goes_on { IfOk result (λ goes_on. goes_on ≡ true → (newer older : List Version) → IsFirst (shown version.entry) (newer ++ older)
             → page_with self.new (newer ++ older) ≡ page_with self.old (newer ++ shown version.entry ∷ older)) }
         ensures ends { IfOk result (λ goes_on. goes_on ≡ false → (newer older : List Version) → IsFirst (shown version.entry) (newer ++ older)

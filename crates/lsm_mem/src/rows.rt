@@ -11,7 +11,7 @@ use std::marker::Model;
 /// How many bytes there is room for at first: a page of 64 rows often has twice as many.
 const FIRST_BYTES: usize = 4_096;
 
-/// Where a row lies in a text: the byte at which its key begins, and how many bytes the key and the value behind it have.
+/// Where a row is in a text: the byte at which its key begins, and how many bytes the key and the value after it have.
 #[derive(Clone, Copy, Debug)]
 struct RowPlace {
     at: usize,
@@ -72,7 +72,7 @@ impl<'p> Rows<'p> {
         self.places.is_empty()
     }
 
-    /// The row behind so many of those that are left.
+    /// The row at `index` of those that are left, counted from 0.
     pub fn get(&self, index: usize) -> Option<RowRef<'p>>
         ensures { option_map shown_row result ≡ slice_get self.now index }
     {
@@ -145,7 +145,7 @@ impl<A: Allocator> RowTexts<A> {
         }
     }
 
-    /// Adds a row. Where memory is refused there is none more.
+    /// Adds a row. Where memory is refused, the rows are as they were.
     pub(crate) fn push(&mut self, key: &[u8], value: &[u8]) -> Result<(), AllocError>
         ensures ok { OnOk result (self.new ≡ self.old ++ (key.now, value.now) ∷ []) }
         ensures err { OnErr result (self.new ≡ self.old) }
@@ -163,7 +163,7 @@ impl<A: Allocator> RowTexts<A> {
 }
 
 impl<A: Allocator + Clone> RowTexts<A> {
-    /// No row, with room for so many.
+    /// No row, with room for `rows` of them.
     pub(crate) fn with_capacity(alloc: &A, rows: usize) -> Result<RowTexts<A>, AllocError>
         ensures { IfOk result (λ texts. texts ≡ []) }
     {

@@ -12,7 +12,7 @@ use std::alloc::Allocator;
 /// The bytes of an entry besides its key and its value.
 const FRAME: u64 = 12;
 
-/// An entry of so many bytes or more is large: beside another one it may leave half of a block free.
+/// An entry of this many bytes or more is large: next to another one it may leave half of a block free.
 const LARGE: u64 = 2_048;
 
 /// How large the versions of batches are as entries of tables. The numbers are upper bounds: an operation that a later one of its batch
@@ -48,7 +48,7 @@ impl MemSize {
         }
     }
 
-    /// This size and that of what a batch makes of its keys.
+    /// This size and that of the versions that a batch makes.
     pub fn with_batch<A: Allocator>(self, batch: &Batch<A>) -> MemSize
         ensures grows { GrowsBy batch.now self result }
 
@@ -69,7 +69,7 @@ impl MemSize {
         size
     }
 
-    // The size of what an operation makes of its key.
+    // The size of the version that an operation makes.
     fn of_operation(operation: OpRef<'_>) -> MemSize
         ensures { IsAnEntry (up_to_64_bits (bytes_of (shown_operation operation.entry))) result }
     {
@@ -80,7 +80,7 @@ impl MemSize {
         }
     }
 
-    // The size of a put of so many bytes.
+    // The size of a put whose entry has `bytes` bytes.
     fn of_put(bytes: u64) -> MemSize
         ensures { IsAnEntry bytes result }
     {
@@ -94,7 +94,7 @@ impl MemSize {
         }
     }
 
-    // The size of a delete of so many bytes.
+    // The size of a delete whose entry has `bytes` bytes.
     fn of_delete(bytes: u64) -> MemSize
         ensures { IsAnEntry bytes result }
     {

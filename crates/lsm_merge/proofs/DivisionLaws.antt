@@ -35,7 +35,7 @@ parted n xs front back whole len = (
   ap (λ (k : ℕ). drop k xs) len ∙ ap (drop (length front)) (sym whole) ∙ drop-append_seam front back,
 )
 
--- so many entries are before a key as pass its test
+-- as many entries are before a key as pass its test
 pub at_key : (n : ℕ) (key : Bytes) (entries passed : List Version) → AreOrdered entries → passed ≡ before key entries → n ≡ length passed → (take n entries ≡ before key entries) × (drop n entries ≡ from key entries)
 at_key n key entries passed ordered is len = parted n entries (before key entries) (from key entries) (sides key entries ordered) (len ∙ ap (λ (vs : List Version). length vs) is)
 

@@ -61,7 +61,7 @@ pub all_placed-placed : (v : Version) (left right : List Version) → all_placed
 all_placed-placed v [] right = refl
 all_placed-placed v (w ∷ rest) right = all_placed-by_order v w rest right (entry_order v w) refl (all_placed-placed v rest right)
 
--- lists in order, brought together, are the versions of both in order
+-- lists in order, merged, are the versions of both in order
 pub in_order-append : (left right : List Version) → in_order (left ++ right) ≡ all_placed (in_order left) (in_order right)
 in_order-append [] right = refl
 in_order-append (v ∷ left) right = ap (placed v) (in_order-append left right) ∙ sym (all_placed-placed v (in_order left) (in_order right))

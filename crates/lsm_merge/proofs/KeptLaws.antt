@@ -38,7 +38,7 @@ adjacent [] k d h i = absurd (omega arith)
 adjacent (w ∷ rest) zero d h i = later w rest 0 d h (omega arith)
 adjacent (w ∷ rest) (suc k) d h i = adjacent rest k d (in_order_cons w rest h).1 (omega arith)
 
--- between two versions of one key stand only versions of that key
+-- between two versions of one key are only versions of that key
 between_order : (a b : Ordering) → ordering_then a b ≡ Less → a ≡ Greater → ⊥
 between_order Less b e f = cc
 between_order Equal b e f = cc
@@ -81,7 +81,7 @@ first_shows n w rest true true e f h = eq-eqb w.number w.number refl
 first_shows n w rest true false e f h = found_older n w rest h
 first_shows n w rest false b e f h = cc
 
--- a place holds the newest of its key at n where it is numbered at most n and no newer one that is stands before it
+-- a place holds the newest of its key at n where it is numbered at most n and no newer one that is comes before it
 pub newest_at_place : (n : ℕ) (versions : List Version) (i : ℕ) (d : Version) → is_in_order versions ≡ true → i < length versions → is_version (get_or versions i d) (first_at (get_or versions i d).key n versions) ≡ shows_at n (get_or versions i d).number (number_before (get_or versions i d) (previous versions i d))
 newest_at_place n [] i d h l = absurd (omega arith)
 newest_at_place n (w ∷ rest) zero d h l = first_shows n w rest (is_same_key w.key w.key) (leb w.number n) (key_itself w.key) refl h

@@ -37,7 +37,7 @@ not_later true b h e = cc
 not_later false true h e = sym (h refl)
 not_later false false h e = refl
 
--- behind a version that isn't before a border none is
+-- after a version that isn't before a border none is
 none_before : (border : Bytes) (to : Option Bytes) (v : Version) (rest : List Version) → is_in_order (v ∷ rest) ≡ true → is_lt (byte_order v.key border) ≡ false
     → (filter (λ w. is_until (Some border) w.key) rest ≡ []) × (within (Some border) to rest ≡ filter (λ w. is_until to w.key) rest)
 none_before border to v [] h e = (refl, refl)

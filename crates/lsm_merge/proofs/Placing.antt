@@ -1,4 +1,4 @@
--- Versions put in their places, and lists in order brought together.
+-- Versions put in their places, and lists in order merged.
 use Rattle.std.proofs.Common.{◌≡◌, ℕ, ◌<◌, true, List, [], ◌∷◌, ◌++◌, suc, length, get_or, append-nil, append_assoc, ◌⊎◌, inl, inr, refl, subst, ap, sym, ◌∙◌, arith}
 use Rattle.std.proofs.lemmas.List.{length-map, map-append}
 use Rattle.std.specs.declared.cmp.Ordering.{Ordering}
@@ -33,7 +33,7 @@ by_equal o a b c e = ap (λ r. by_order r a b c) e
 pub by_greater : {A : Type 0} (o : Ordering) (a b c : A) → o ≡ Greater → by_order o a b c ≡ c
 by_greater o a b c e = ap (λ r. by_order r a b c) e
 
--- what stands before the first of a list stands before each of what is placed in it
+-- what comes before the first of a list comes before each of what is placed in it
 pub placed_first : (v : Version) (entries : List Version) → is_before v entries ≡ true → placed v entries ≡ v ∷ entries
 placed_first v [] h = refl
 placed_first v (w ∷ rest) h = by_less (entry_order v w) _ _ _ (is_lt_Less _ h)
@@ -59,11 +59,11 @@ is_before-all_placed x (v ∷ rest) right h k =
     is_before-placed x v (all_placed rest right) a.0
     (is_before-all_placed x rest right (cons_in_order x rest (is_before_rest x v rest (is_lt_Less _ a.0) b.0) b.1) k)
 
--- the first of the left list stands before all of the right one
+-- the first of the left list comes before all of the right one
 pub all_placed_left_first : (x : Version) (left right : List Version) → is_in_order (x ∷ left) ≡ true → is_before x right ≡ true → all_placed (x ∷ left) right ≡ x ∷ all_placed left right
 all_placed_left_first x left right h k = placed_first x (all_placed left right) (is_before-all_placed x left right h k)
 
--- what stands before all of the left list stays first
+-- what comes before all of the left list stays first
 pub all_placed_right_first : (y : Version) (left right : List Version) → is_in_order (y ∷ left) ≡ true → all_placed left (y ∷ right) ≡ y ∷ all_placed left right
 all_placed_right_first y [] right h = refl
 all_placed_right_first y (v ∷ rest) right h =

@@ -16,7 +16,7 @@ use Rattle.lsm_mem.proofs.OrderTests.{is_in_order, in_order_cons}
 use Rattle.lsm_mem.proofs.Orders.{older_number, same_key-from}
 use Rattle.lsm_mem.proofs.FirstLaws.{in_order_skip, first_less}
 
--- versions in order, settled onto those behind them
+-- versions in order, settled onto those after them
 abbrev pub all_settled_onto : List Version → List Version → List Version
 all_settled_onto [] rest = rest
 all_settled_onto (v ∷ versions) rest = settled_onto v (all_settled_onto versions rest)

@@ -24,7 +24,7 @@ pub record AreInParts (First Others : List TableBlocks → Type 0) (tables : Lis
   pub others : Others back
 
 -- The tables of entries that are divided at keys, one after the other: those of the entries before the first key are the
--- tables of these alone, and so on with the entries from it on; behind the last key they are the tables of what is left.
+-- tables of these alone, and so on with the entries from it on; from the last key on they are the tables of what is left.
 abbrev pub AreTablesAt : List Bytes → List Version → List TableBlocks → Type 0
 AreTablesAt [] entries tables = IsTables entries tables
 AreTablesAt (key ∷ keys) entries tables = AreInParts (IsTables (before key entries)) (λ back. AreTablesAt keys (from key entries) back) tables

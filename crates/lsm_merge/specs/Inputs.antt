@@ -6,7 +6,7 @@ use Rattle.lsm_codec.specs.Versions.{Version, AreOrdered}
 use Rattle.lsm_mem.specs.Versions.{joined}
 use Rattle.lsm_merge.specs.Keeping.{keep}
 
--- runs, the newer first; the counts at which the map is kept; and whether nothing older lies below
+-- runs, the newer first; the counts at which the map is kept; and whether nothing older is below
 pub record MergeInput : Type 0 where
   pub runs : List (List Version)
   pub cuts : List ℕ

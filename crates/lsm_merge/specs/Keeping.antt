@@ -5,7 +5,7 @@ use Rattle.lsm_codec.specs.Versions.{Version, is_same_key, newest}
 use Rattle.lsm_mem.specs.EntryOrder.{placed}
 use Rattle.lsm_mem.specs.Ranges.{is_version}
 
--- the first versions placed among the others, which stand in the order of entries; of two with one key and number the first
+-- the first versions placed among the others, which are in the order of entries; of two with one key and number the first
 abbrev pub all_placed : List Version → List Version → List Version
 all_placed [] entries = entries
 all_placed (v ∷ rest) entries = placed v (all_placed rest entries)

@@ -16,8 +16,8 @@ pub record HaveSameMap (n : ℕ) (versions kept : List Version) : Type 0 where
   pub values : (key : Bytes) → value_at kept n key ≡ value_at versions n key
   pub maps : map_of kept n ≡ map_of versions n
 
--- A merge keeps the map at each such count, beside nothing older, and without the bottom flag each newest version, a delete
--- too. What it keeps is in the order of entries and among the versions; a cut asks for each; and at the bottom there is no
+-- A merge keeps the map of the versions alone at each such count, and without the bottom flag each newest version, a delete
+-- too. What it keeps is in the order of entries and among the versions; each is the newest at a cut; and at the bottom is no
 -- delete without an older put of its key.
 pub record KeepsMaps (cuts : List ℕ) (versions : List Version) : Type 0 where
   pub same_map : (bottom : Bool) (n : ℕ) → IsKeptAt cuts versions n → HaveSameMap n versions (keep cuts bottom versions)

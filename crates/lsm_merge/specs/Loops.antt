@@ -1,4 +1,4 @@
--- What the loops of a merge go by.
+-- Definitions for the loops of a merge.
 use Rattle.std.specs.Prelude.{◌≡◌, ℕ, zero, suc, ◌+◌, ◌≤◌, Bool, false, cond, not, ◌&&◌, leb, ltb, is_none, List, [], ◌∷◌, map, length, drop, slice_index_or, Option, Some, None}
 use denote.Ref.{Bor}
 use Rattle.lsm_codec.specs.Keys.{Bytes}
@@ -9,7 +9,7 @@ use Rattle.lsm_merge.specs.Keeping.{all_placed, in_order, keep}
 abbrev pub shown : List (Bor Version) → List Version
 shown entries = map (λ entry. entry.now) entries
 
--- v is the first of the versions of both lists, of which it takes so many
+-- v is the first of the versions of both lists, and takes `from_left` and `from_right` of them
 pub record TakesFirst (left right : List (Bor Version)) (v : Version) (from_left from_right : ℕ) : Type 0 where
   pub splits : all_placed (shown left) (shown right) ≡ v ∷ all_placed (shown (drop from_left left)) (shown (drop from_right right))
   pub left_ordered : AreOrdered (shown (drop from_left left))
@@ -27,7 +27,7 @@ abbrev pub shows_at : ℕ → ℕ → Option ℕ → Bool
 shows_at n number None = leb number n
 shows_at n number (Some above) = leb number n && ltb n above
 
--- the number of a version that stands just before, where it is of the same key
+-- the number of the version just before, where it is of the same key
 abbrev pub number_before : Version → Option Version → Option ℕ
 number_before v None = None
 number_before v (Some w) = cond (is_same_key v.key w.key) (Some w.number) None

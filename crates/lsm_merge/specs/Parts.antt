@@ -29,7 +29,7 @@ abbrev pub first_borders : List Version → ℕ → ℕ → List Bytes
 first_borders run parts zero = []
 first_borders run parts (suc n) = with_border (first_borders run parts n) (border run parts (suc n))
 
--- where an input is cut into so many parts
+-- where an input is cut into `parts` parts
 abbrev pub borders_of : MergeInput → ℕ → List Bytes
 borders_of input parts = cond (length (longest input.runs) == 0) [] (first_borders (longest input.runs) parts (parts - 1))
 

@@ -19,7 +19,7 @@ abbrev pub is_until : Option Bytes → Bytes → Bool
 is_until None key = true
 is_until (Some to) key = is_lt (byte_order key to)
 
--- whether a key lies in a range: its beginning does, its end doesn't
+-- whether a key is in a range: its beginning is, its end isn't
 abbrev pub is_within : Option Bytes → Option Bytes → Bytes → Bool
 is_within from to key = is_from from key && is_until to key
 

@@ -80,7 +80,7 @@ fn start_of<A: Allocator>(borders: &[Key<A>], i: usize) -> Option<&[u8]>
     Some(borders[i - 1].as_slice())
 }
 
-/// Where it ends: before the next border, or behind the last key.
+/// Where it ends: before the next border, or after the last key.
 fn end_of<A: Allocator>(borders: &[Key<A>], i: usize) -> Option<&[u8]>
     ensures { shown_key result ≡ end_of borders.now i }
 {
@@ -135,7 +135,7 @@ fn merge_parts<R: Threads + Sync, A: Allocator + Clone + Send + Sync, G: Gate>(
     ensures value { IfOk result (λ v. v.items ≡ kept_of input.now) }
     ensures divides { IfOk result (λ v. IsInput v.items) }
 {
-    // So many cuts are the most entries of a key.
+    // A key keeps at most one entry for each cut.
     let _ = input.cuts();
     let borders = border_keys(alloc, input, parts)?;
     let cuts = borders.as_slice();
@@ -155,7 +155,7 @@ fn whole<A: Allocator + Clone>(alloc: A, input: &Input<A>) -> Result<Vec<Entry<A
     ensures value { IfOk result (λ v. v.items ≡ kept_of input.now) }
     ensures divides { IfOk result (λ v. IsInput v.items) }
 {
-    // So many cuts are the most entries of a key.
+    // A key keeps at most one entry for each cut.
     let _ = input.cuts();
     Ok(kept_part(alloc, input, None, None)?)
 }
@@ -202,7 +202,7 @@ pub fn build_gated<R: Threads + Sync, A: Allocator + Clone + Send + Sync, G: Gat
 }
 
 /// The tables of what a merge keeps, with its input, merged in 1 to 8 parts, each on a thread of its own, or by the caller
-/// where no thread can be started. The tables are the same for every number of parts, and divided at no key. Refused with
+/// where no thread can be started. The tables are the same for every number of parts, and divided at no key. Fails with
 /// BadLimit for another number, and with NoMemory where memory runs out. What is kept is copied once.
 pub fn build<R: Threads + Sync, A: Allocator + Clone + Send + Sync>(
     rt: &R,
@@ -221,7 +221,7 @@ pub fn build<R: Threads + Sync, A: Allocator + Clone + Send + Sync>(
 
 /// As `build`, but what the merge keeps is divided at keys: the entries before the first key have tables of their own, and so
 /// have those from each key to the next, and those from the last one on. A key that is not above the one before it divides
-/// nothing, nor does one that all entries are before, or none. Refused as `build` is.
+/// nothing, nor does one that all entries are before, or no entry is. Fails as `build`.
 pub fn build_divided<R: Threads + Sync, A: Allocator + Clone + Send + Sync>(
     rt: &R,
     alloc: A,
@@ -239,7 +239,7 @@ pub fn build_divided<R: Threads + Sync, A: Allocator + Clone + Send + Sync>(
     Ok(built_of(alloc, input, entries, divisions)?)
 }
 
-/// What `build_divided` answers, merged in one part by the caller, with no thread. Refused with NoMemory alone.
+/// As `build_divided`, but merged in one part by the caller, with no thread. Fails with NoMemory alone.
 pub fn build_here<A: Allocator + Clone>(
     alloc: A,
     input: Arc<Input<A>, A>,

@@ -19,7 +19,7 @@ fn are_same_bytes(bytes: &[u8], others: &[u8]) -> bool
     bytes.cmp(others).is_eq()
 }
 
-/// Whether both are none, or the same bytes.
+/// Whether both are `None`, or the same bytes.
 fn are_same_values(value: Option<&[u8]>, other: Option<&[u8]>) -> bool
     ensures { IsTrue result ↔ (option_map (λ v. v.now) value.entry ≡ option_map (λ v. v.now) other.entry) }
 {

@@ -36,7 +36,7 @@ fn is_above_last<A: Allocator>(key: &[u8], keys: &[Key<A>]) -> bool
     }
 }
 
-/// The place where a part begins: that many of so many parts of a length, rounded down.
+/// The place where part `i` of `parts` begins in a list of `len` entries: i * len / parts, rounded down.
 fn place(i: usize, len: usize, parts: usize) -> usize
     requires parts { 0 < parts }
     requires within { i < parts }
@@ -48,7 +48,7 @@ fn place(i: usize, len: usize, parts: usize) -> usize
     i * (len / parts) + i * (len % parts) / parts
 }
 
-/// Adds a border, unless it is the last one again.
+/// Adds a border, unless it is not above the last one.
 fn add_border<A: Allocator + Clone>(
     alloc: &A,
     key: &[u8],
@@ -64,7 +64,7 @@ fn add_border<A: Allocator + Clone>(
     Ok(())
 }
 
-/// The borders of a run that is not empty, cut into so many parts.
+/// The borders of a run that is not empty, cut into `parts` parts.
 fn borders_of_run<A: Allocator + Clone>(
     alloc: &A,
     run: &[Entry<A>],
@@ -82,7 +82,7 @@ fn borders_of_run<A: Allocator + Clone>(
     Ok(borders)
 }
 
-/// Where to cut an input into so many parts, as keys.
+/// Where to cut an input into `parts` parts, as keys.
 pub(crate) fn border_keys<A: Allocator + Clone>(
     alloc: &A,
     input: &Input<A>,
@@ -119,7 +119,7 @@ fn bytes_of<A: Allocator + Clone>(
 }
 
 /// Where to cut an input into 1 to 8 parts: the keys, ascending, with which all parts but the first begin. With n entries
-/// in the longest run they are the keys of its entries at i * n / parts, equal ones once; with none there is none. Refused
+/// in the longest run they are the keys of its entries at i * n / parts, equal ones once; with no entry there are none. Fails
 /// with BadLimit for another number of parts, and with NoMemory where memory runs out.
 pub fn borders<A: Allocator + Clone>(
     alloc: &A,

@@ -25,7 +25,7 @@ fn take_before<A: Allocator + Clone>(
 }
 
 /// The tables of entries that are divided at keys: of those before the first key, of those from it to the next, and so on,
-/// and of those behind the last. A key that is not above the one before it divides nothing.
+/// and of those from the last one on. A key that is not above the one before it divides nothing.
 pub(crate) fn divided<A: Allocator + Clone>(
     alloc: &A,
     entries: Vec<Entry<A>, A>,

@@ -12,7 +12,7 @@ use std::cmp::Ordering;
 use std::marker::Model;
 
 /// What is to be merged: runs, the newer first, each in the order of entries with no key and number twice; the cuts, 1 to
-/// 33 ascending counts at which the map is kept; and whether nothing older lies below. Contracts see these three.
+/// 33 ascending counts at which the map is kept; and whether nothing older is below. Contracts see these three.
 #[derive(Drop)]
 pub struct Input<A: Allocator = Global> {
     runs: Vec<Vec<Entry<A>, A>, A>,
@@ -31,7 +31,7 @@ impl<A: Allocator> Model for Input<A> {
 }
 
 impl<A: Allocator> Input<A> {
-    /// An input of runs, the newer first, cuts and bottom flag. Each run stands in the order of entries, with no key and number
+    /// An input of runs, the newer first, cuts and bottom flag. Each run is in the order of entries, with no key and number
     /// twice, and there are 1 to 33 cuts, which ascend.
     pub fn new(runs: Vec<Vec<Entry<A>, A>, A>, cuts: Vec<u64, A>, bottom: bool) -> Input<A>
         requires runs { AreRuns (items_of runs.items) }
@@ -65,7 +65,7 @@ impl<A: Allocator> Input<A> {
         &self.cuts
     }
 
-    /// Whether nothing older lies below.
+    /// Whether nothing older is below.
     pub(crate) fn is_bottom(&self) -> bool
         ensures { result ≡ self.now.bottom }
     {

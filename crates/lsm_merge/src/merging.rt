@@ -1,4 +1,4 @@
-//! Runs brought together in order.
+//! Runs merged in order.
 
 ghost use Rattle.std.specs.Prelude.{◌≡◌, ◌<◌, IfOk, length};
 ghost use Rattle.lsm_codec.specs.Versions.{AreOrdered};

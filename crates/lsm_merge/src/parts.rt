@@ -53,7 +53,7 @@ pub(crate) fn kept_part<A: Allocator + Clone>(
 
 /// The entries that the merge keeps of a range of keys, from a key on and below a key, in order: the copies of those that are,
 /// for some cut, the newest of their key numbered at most the cut; of two with one key and number that of the newer run;
-/// with nothing older below, no delete without an older kept put of its key. Refused with NoMemory alone.
+/// with nothing older below, no delete without an older kept put of its key. Fails with NoMemory alone.
 pub fn part<A: Allocator + Clone>(
     alloc: A,
     input: &Input<A>,

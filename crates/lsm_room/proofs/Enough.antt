@@ -73,18 +73,18 @@ module _ (cuts : List ℕ) (bottom : Bool) (versions : List Version) (images : L
 pub enough_for : (live : Bool) (blocks count : ℕ) (outputs : Outputs) → HoldImages live blocks count outputs → AreEnoughFor live blocks count outputs
 enough_for live blocks count outputs holds low cuts bottom versions images c are block_few entry_few = enough cuts bottom versions images are live blocks count outputs holds low c block_few entry_few
 
--- one image, where no more can come of so many
+-- one image, where there can be no more
 pub enough_for_one : (live : Bool) (blocks count : ℕ) (outputs : Outputs) → most_images live blocks count ≤ 1 → (outputs.blocks < 4294967296 → min blocks 64 + (div_ceil (264 * min blocks 64) 4096 + 2) ≤ outputs.blocks) → outputs.largest ≡ outputs.blocks
     → AreEnoughFor live blocks count outputs
 enough_for_one live blocks count outputs one least same low cuts bottom versions images c are block_few entry_few =
     subst (λ (n : ℕ). TakeAtMost outputs.blocks n images) (sym same) (enough_one cuts bottom versions images are live blocks count outputs.blocks one (least low) c block_few entry_few)
 
--- so many blocks and entries are no large numbers then
+-- blocks and entries are then below 2^32 and 2^64 - 2
 pub few_for_one : (live : Bool) (blocks count : ℕ) → most_images live blocks count ≤ 1 → (blocks < 4294967296) × (count < 18446744073709551614)
 few_for_one false blocks count one = (omega (arith, one), omega (arith, one))
 few_for_one true blocks count one = (omega (arith, one), omega (arith, one))
 
--- what is told of few outputs is no large number
+-- and so they are where the outputs are below 2^32
 pub few_count : (live : Bool) (blocks count : ℕ) (outputs : Outputs) → HoldImages live blocks count outputs → outputs.blocks < 4294967296 → (blocks < 4294967296) × (count < 18446744073709551614)
 few_count false blocks count outputs holds low = let hold = holds low in (omega (arith, hold.all, low), omega (arith, hold.all, low))
 few_count true blocks count outputs holds low = let hold = holds low in (omega (arith, hold.all, low), omega (arith, hold.all, low))

@@ -33,7 +33,7 @@ of_tables : (images : List TableBlocks) → AllByRecursion IsTable images → Al
 of_tables [] each = tt
 of_tables (image ∷ images) each = all_append IsEntry (entries_of image) (flat_map entries_of images) each.0.versions (of_tables images each.1)
 
--- of an entry within the limits a size tells the bytes
+-- for entries within the limits a size bounds the bytes
 not_larger : (versions : List Version) (most : ℕ) → AllByRecursion IsEntry versions → AllByRecursion (λ v. up_to_64_bits (entry_size v) ≤ most) versions → AllByRecursion (λ v. entry_size v ≤ most) versions
 not_larger [] most are small = tt
 not_larger (v ∷ versions) most are small = (omega (arith, are.0.key.1, are.0.value, small.0), not_larger versions most are.1 small.1)
@@ -106,7 +106,7 @@ held_few : (live : Bool) (blocks count : ℕ) (outputs : Outputs) → HoldImages
 held_few false blocks count outputs holds low = let hold = holds low in (omega (arith, hold.all, low), omega (arith, hold.all, low))
 held_few true blocks count outputs holds low = let hold = holds low in (omega (arith, hold.all, low), omega (arith, hold.all, low))
 
--- outputs of so many blocks and entries are those of a flush
+-- outputs of these blocks and entries are those of a flush
 pub flush_takes : (live : Bool) (size : MemSize) (bytes count : ℕ) (outputs : Outputs) → AreFlushCandidates size bytes count → HoldImages live (min bytes count) size.entries outputs → FlushTakes live size outputs
 flush_takes live size bytes count outputs candidates holds low versions images covers flushed =
     let fewer = held_few live (min bytes count) size.entries outputs holds low in
@@ -130,7 +130,7 @@ nothing_flushed live size outputs none low versions images covers flushed =
 
 -- ---- both
 
--- where outputs of both leave so many blocks, the flushes do
+-- where outputs of both leave `spare` blocks, the flushes do
 pub both_leave : (spare free : ℕ) (live : Bool) (waiting memory : MemSize) (first second : Outputs) → FlushTakes live waiting first → FlushTakes live memory second → free < 4294967296 → first.blocks + second.blocks + spare ≤ free
     → FlushesLeave spare free live waiting memory
 both_leave spare free live waiting memory first second takes also few fits old versions covers covers_also made images flushed flushed_also =

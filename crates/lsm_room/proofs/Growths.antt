@@ -33,7 +33,7 @@ in_parts levels runs front back runs_are parts =
       number = ap (λ (rs : List (List Table)). length (all_tables rs)) (sym whole) ∙ all.number ∙ ap (λ n. length (all_tables runs) + n) deeper.number;
     }
 
--- a level and those behind it
+-- a level and those after it
 pub with_first : (level : List Table) (rest : List (List Table)) → Has (level ∷ rest) (blocks_of level + blocks_of (all_tables rest)) (length level + length (all_tables rest))
 with_first level rest = record {
   blocks_are = sum_by-append (λ t. t.blocks) level (all_tables rest);

@@ -15,7 +15,7 @@ use Rattle.lsm_table.proofs.Outlines.{few_blocks}
 use Rattle.lsm_table.proofs.TableCounts.{table_count_laws}
 use Rattle.lsm_room.specs.Outputs.{TakeAtMost}
 
--- Of entries that take so many data blocks in one table there are so many images, where there are so many of a key at most.
+-- The images of entries, of which at most `group` have one key.
 pub record AreFew (group : ℕ) (entries : List Version) (images : List TableBlocks) : Type 0 where
   pub tables : IsTables entries images
   pub each : AllByRecursion IsTable images

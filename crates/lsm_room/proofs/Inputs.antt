@@ -18,7 +18,7 @@ one_if_large v = cond (leb (entry_size v) 2047) 0 1
 abbrev pub large_in : List Version → ℕ
 large_in versions = sum_by one_if_large versions
 
--- ---- blocks that come of entries
+-- ---- the blocks of entries
 
 most_of : (b : Bool) → cond b 1 2 ≡ 1 + cond b 0 1
 most_of true = refl

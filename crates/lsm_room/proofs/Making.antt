@@ -147,7 +147,7 @@ finds_room area levels live job keys outputs fit makes sectors from cuts images 
     let most = makes sectors from cuts images stand c made in
     record { total = outputs.blocks; largest = outputs.largest; fit = fit; each = most.each; all = most.all }
 
--- what is chosen makes no more than is reckoned of the pick
+-- what is chosen makes no more than is computed for the pick
 pub chosen_makes : (levels : Levels) (live : Bool) (jobs : List Job) (choice : Choice) (pick : Job) (keys : List Bytes) (outputs : Outputs) → AreRuns levels → Some pick ≡ chosen levels jobs choice
     → (outputs.blocks < 4294967296 → IsHeld levels (is_bottom levels pick) pick → is_flush pick ≡ false → MakesAtMost levels live pick keys outputs.blocks outputs.largest)
     → outputs.blocks < 4294967296 → (job : Job) → chosen levels jobs choice ≡ Some job → MakesAtMost levels live job keys outputs.blocks outputs.largest

@@ -148,7 +148,7 @@ module _ (sectors : List (List ℕ)) (from : ℕ) where
   one_table t tables stand =
       omega (arith, data_block_laws.least (images (t ∷ tables) stand) (in_blocks (t ∷ tables) stand) (omega arith), ap block_count (entries_are (t ∷ tables) stand), blocks_are (t ∷ tables) stand)
 
-  -- so many bytes they have at most
+  -- the bytes that they have at most
   pub held : (tables : List Table) → AllByRecursion (StandsDivided sectors from) tables → sum_by entry_size (versions_of tables) ≤ 4094 * blocks_in tables
   held tables stand =
       omega (arith, byte_laws.held (images tables stand) (in_blocks tables stand), ap (sum_by entry_size) (entries_are tables stand), blocks_are tables stand)

@@ -189,7 +189,7 @@ extents_joined : (front back : List TableBlocks) → extent_blocks (front ++ bac
 extents_joined [] back = omega arith
 extents_joined (image ∷ front) back = omega (arith, extents_joined front back)
 
--- two lists of images take what they take beside each other
+-- two lists of images together take what both take
 both_take : (front back images : List TableBlocks) (first second both : Outputs) → images ≡ front ++ back → AreBeside first second both → TakeAtMost first.blocks first.largest front → TakeAtMost second.blocks second.largest back
     → TakeAtMost both.blocks both.largest images
 both_take front back images first second both joined beside one other = record {

@@ -10,6 +10,6 @@ pub raised_append : (first second : List Table) (old between new : Sizes) → Ar
 raised_append [] second old between new are others = subst (λ (s : Sizes). AreRaised s second new) are others
 raised_append (t ∷ first) second old between new (next, one, rest) others = (next, one, raised_append first second next between new rest others)
 
--- the tables of a run and of those behind it
+-- the tables of a run and of those after it
 pub run_and_rest : (runs : List (List Table)) (i : ℕ) (run : List Table) → i < length runs → run ≡ slice_index_or runs i run → all_tables (drop i runs) ≡ run ++ all_tables (drop (i + 1) runs)
 run_and_rest runs i run lt is = ap all_tables (drop_more runs i run lt) ∙ ap (λ (r : List Table). r ++ all_tables (drop (i + 1) runs)) (sym is)

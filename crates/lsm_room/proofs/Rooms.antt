@@ -12,7 +12,7 @@ use Rattle.lsm_levels.specs.Moving.{table_count}
 use Rattle.lsm_policy.specs.Room.{blocks_of, taken_blocks}
 use Rattle.lsm_levels.proofs.OldestRuns.{tables_append}
 
--- sizes of so many blocks in all have no more each
+-- sizes of `total` blocks in all have no more each
 narrowed : (sizes : List ℕ) (total largest : ℕ) → AllByRecursion (λ n. (0 < n) × (n ≤ largest)) sizes → sum sizes ≤ total → AllByRecursion (λ n. (0 < n) × (n ≤ min largest total)) sizes
 narrowed [] total largest each within = tt
 narrowed (n ∷ rest) total largest (h, hs) within =
@@ -34,7 +34,7 @@ nothing_fits area largest (n ∷ rest) (h, hs) within =
 pub of_none : (area : Area) (total largest : ℕ) → total ≡ 0 → SurelyFit area total largest
 of_none area total largest none = record { find = λ sizes each within. nothing_fits area largest sizes each (omega (arith, none, within)) }
 
--- so many tables are in all levels, up to a limit
+-- the number of tables in all levels, up to a limit
 pub all_counted : (levels : Levels) (runs deeper : List (List Table)) → runs ≡ levels.runs → deeper ≡ levels.deeper → (limit first both : ℕ)
     → first ≡ min (0 + length (all_tables runs)) limit → both ≡ min (first + length (all_tables deeper)) limit → both ≡ min (table_count levels) limit
 all_counted levels runs deeper runs_are deeper_are limit first both first_is both_is =
@@ -42,7 +42,7 @@ all_counted levels runs deeper runs_are deeper_are limit first both first_is bot
     sym (length-append (all_tables runs) (all_tables deeper)) ∙ ap length (sym (tables_append runs deeper)) ∙ (λ i. length (all_tables (runs_are i ++ deeper_are i)))
     in omega (arith, first_is, both_is, whole)
 
--- so many blocks are in all tables, up to a limit
+-- the number of blocks in all tables, up to a limit
 pub all_taken : (levels : Levels) (runs deeper : List (List Table)) → runs ≡ levels.runs → deeper ≡ levels.deeper → (limit first both : ℕ)
     → first ≡ min (0 + blocks_of (all_tables runs)) limit → both ≡ min (first + blocks_of (all_tables deeper)) limit → both ≡ min (taken_blocks levels) limit
 all_taken levels runs deeper runs_are deeper_are limit first both first_is both_is =

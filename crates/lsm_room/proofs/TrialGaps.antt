@@ -1,4 +1,4 @@
--- Gaps of an area, one after the other, and the lowest that has so many blocks.
+-- Gaps of an area, one after the other, and the lowest that has `blocks` blocks.
 use Rattle.std.proofs.Common.{◌≡◌, ℕ, ◌+◌, ◌-◌, ◌<◌, ◌≤◌, Bool, true, false, cond, List, [], ◌∷◌, ◌++◌, length, drop, filter, slice_get, slice_set, get_or, Some, None, refl, sym, ap, ◌∙◌, subst, arith, append_assoc}
 use Prim.Native.Nat.{min}
 use Rattle.std.specs.List.{position, position_or_len}
@@ -16,14 +16,14 @@ lower : (blocks : ℕ) (gaps : List Extent) (k : ℕ) (other : Extent) → slice
 lower blocks gaps k other there fails =
     leb-false blocks other.blocks (subst (λ (g : Extent). has_blocks blocks g ≡ false) (get_or_from_slice_get gaps k other other there) fails)
 
--- where none has so many, each has fewer
+-- where none has `blocks` blocks, each has fewer
 pub all_lower : (blocks : ℕ) (gaps : List Extent) → position (has_blocks blocks) gaps ≡ None → (k : ℕ) (other : Extent) → slice_get gaps k ≡ Some other → other.blocks < blocks
 all_lower blocks gaps none k other there =
     let within : k < length gaps = slice_get_within gaps k other there in
     let before : k < position_or_len (has_blocks blocks) gaps = grind (arith, common_steps) in
     lower blocks gaps k other there (fails_before_first (has_blocks blocks) gaps k other before)
 
--- what is left where it is taken from the first that has so many
+-- what is left where a run is taken from the first that has `blocks` blocks
 pub takes : (blocks : ℕ) (old : List Extent) (place : ℕ) (other : Extent) (start : ℕ) → position (has_blocks blocks) old ≡ Some place → start ≡ min ((get_or old place other).first + blocks) 4294967295
     → TakesLowest blocks old (slice_set old place (record { first = start; blocks = (get_or old place other).blocks - blocks })) (get_or old place other).first
 takes blocks old place other start found start_is =

@@ -21,10 +21,10 @@ abbrev pub FlushTakes : Bool → MemSize → Outputs → Type 0
 FlushTakes live size outputs = outputs.blocks < 4294967296
     → (versions : List Version) (images : List TableBlocks) → Covers versions size → AreFlushed live versions images → TakeAtMost outputs.blocks outputs.largest images
 
--- Of so many free blocks flushes of what waits and of the memtable leave so many.
+-- Of `free` free blocks the flushes of what waits and of the memtable leave `spare`.
 abbrev pub LeaveFree : ℕ → ℕ → Bool → List Version → List Version → Type 0
 LeaveFree spare free live waiting versions = (first images : List TableBlocks) → AreFlushed live waiting first → AreFlushed live versions images → extent_blocks first + extent_blocks images + spare ≤ free
 
--- So they do whatever versions these sizes cover.
+-- That holds whatever versions these sizes cover.
 abbrev pub FlushesLeave : ℕ → ℕ → Bool → MemSize → MemSize → Type 0
 FlushesLeave spare free live waiting memory = (old versions : List Version) → Covers old waiting → Covers versions memory → LeaveFree spare free live old versions

@@ -5,7 +5,7 @@ use Rattle.lsm_extent.specs.declared.extent.Extent.{Extent}
 use Rattle.lsm_extent.specs.Area.{Area}
 use Rattle.lsm_extent.specs.Gaps.{gaps}
 
--- whether a gap has so many blocks
+-- whether a gap has `blocks` blocks
 abbrev pub has_blocks : ℕ → Extent → Bool
 has_blocks blocks gap = nat_le blocks gap.blocks
 
@@ -17,11 +17,11 @@ free_gaps area = filter (has_blocks 1) (gaps area)
 abbrev pub shortened : ℕ → Extent → Extent
 shortened blocks gap = record { first = min (gap.first + blocks) 4294967295; blocks = gap.blocks - blocks }
 
--- No gap has so many blocks.
+-- No gap has `blocks` blocks.
 abbrev pub HasNone : ℕ → List Extent → Type 0
 HasNone blocks free = (k : ℕ) (other : Extent) → slice_get free k ≡ Some other → other.blocks < blocks
 
--- The lowest gap that has so many blocks loses its first ones, and the others stay.
+-- The lowest gap that has `blocks` blocks loses its first ones, and the others stay.
 pub record TakesLowest (blocks : ℕ) (old new : List Extent) (first : ℕ) : Type 0 where
   pub place : ℕ
   pub gap : Extent

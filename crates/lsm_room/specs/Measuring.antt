@@ -1,4 +1,4 @@
--- How large tables are together, by their numbers, and what comes of that.
+-- How large tables are together, by their numbers, and how large the outputs of their merge are.
 use Rattle.std.specs.Prelude.{◌≡◌, ◌<◌, ◌≤◌, ◌⊎◌, ℕ, ◌+◌, ◌-◌, ◌*◌, ◌/◌, Bool, true, false, List, [], ◌∷◌, ◌++◌, length, ltb, if◌then◌else◌}
 use Rattle.std.specs.List.{AllByRecursion}
 use Rattle.std.specs.Int.{div_ceil}
@@ -33,7 +33,7 @@ pub record IsRaised (old : Sizes) (t : Table) (new : Sizes) : Type 0 where
   pub large : new.large ≡ sum_up_to old.large (large_of most t)
   pub largest : new.largest ≡ max old.largest most
 
--- so they were by those of tables, one after the other
+-- Sizes were raised by those of tables, one after the other.
 abbrev pub AreRaised : Sizes → List Table → Sizes → Type 0
 AreRaised old [] new = new ≡ old
 AreRaised old (t ∷ tables) new = (between : Sizes) × IsRaised old t between × AreRaised between tables new
@@ -48,24 +48,24 @@ AreSizes tables sizes = AreRaised no_sizes tables sizes
 
 -- ---- what images take
 
--- how many images there are at most of so many data blocks and entries: where a snapshot is live, up to 33 entries may have one key
+-- how many images there are at most of `blocks` data blocks and `entries` entries: with a live snapshot up to 33 entries may have one key
 abbrev pub most_images : Bool → ℕ → ℕ → ℕ
 most_images live blocks entries =
     if live then entries / 3168 + ((blocks + entries / 3168) / 31 + 1) else entries / 3200 + ((blocks + entries / 3200) / 63 + 1)
 
--- so many images of so many data blocks take no more than these outputs, and each no more than the largest
+-- `images` images of `blocks` data blocks take no more than these outputs, and each no more than the largest
 pub record Hold (blocks images : ℕ) (outputs : Outputs) : Type 0 where
   pub all : blocks + (div_ceil (264 * blocks) 4096 + 3 * images) ≤ outputs.blocks
   pub each : min blocks 64 + (div_ceil (264 * min blocks 64) 4096 + 2) ≤ outputs.largest
 
--- So it is of the images of entries that take so many data blocks in one table, where the outputs are no large number.
+-- So do the images of `entries` entries that take `blocks` data blocks in one table, where the outputs are below 2^32.
 abbrev pub HoldImages : Bool → ℕ → ℕ → Outputs → Type 0
 HoldImages live blocks entries outputs = outputs.blocks < 4294967296
     → Hold (blocks + (most_images live blocks entries - 1)) (most_images live blocks entries) outputs
 
 -- ---- what a merge makes
 
--- Tables stand in the sectors of a device, and these are their sizes.
+-- Tables are in the sectors of a device, and these are their sizes.
 pub record HaveSizes (sectors : List (List ℕ)) (from : ℕ) (tables : List Table) (sizes : Sizes) : Type 0 where
   pub stand : AllByRecursion (StandsDivided sectors from) tables
   pub are : AreSizes tables sizes
@@ -75,7 +75,7 @@ pub record AreOfKept (cuts : List ℕ) (bottom : Bool) (versions : List Version)
   pub tables : IsTables (keep cuts bottom versions) images
   pub each : AllByRecursion IsTable images
 
--- Outputs are enough for what a merge makes that keeps entries of so many data blocks in one table, and no more entries than so many.
+-- Outputs are enough for a merge that keeps at most `entries` entries, which take at most `blocks` data blocks in one table.
 abbrev pub AreEnoughFor : Bool → ℕ → ℕ → Outputs → Type 0
 AreEnoughFor live blocks entries outputs = outputs.blocks < 4294967296 → (cuts : List ℕ) (bottom : Bool) (versions : List Version) (images : List TableBlocks) → AreCuts live cuts → AreOfKept cuts bottom versions images
     → block_count (keep cuts bottom versions) ≤ blocks → length (keep cuts bottom versions) ≤ entries → TakeAtMost outputs.blocks outputs.largest images
@@ -107,7 +107,7 @@ AreEnoughAt live key t outputs = outputs.blocks < 4294967296 → (sectors : List
     → (cuts : List ℕ) (bottom : Bool) (images : List TableBlocks) → AreCuts live cuts → AreTablesAt (key ∷ []) (keep cuts bottom (versions_of (t ∷ []))) images → AllByRecursion IsTable images
     → TakeAtMost outputs.blocks outputs.largest images
 
--- outputs are those of two others beside each other, where they are no large number
+-- outputs cover two others together
 pub record AreBeside (first second both : Outputs) : Type 0 where
   pub all : first.blocks + second.blocks ≤ both.blocks
   pub each : (first.largest ≤ both.largest) × (second.largest ≤ both.largest)

@@ -15,7 +15,7 @@ use Rattle.lsm_levels.specs.Pick.{Job, inputs, is_bottom}
 use Rattle.lsm_levels.specs.Stored.{IsStored}
 use Rattle.lsm_jobs.specs.SureRoom.{HaveSureRoom}
 
--- A table stands in the sectors of a device, whose data area begins with a sector, and is divided into blocks as the store divides tables.
+-- A table is in the sectors of a device, whose data area begins with a sector, and is divided into blocks as the store divides tables.
 pub record StandsDivided (sectors : List (List ℕ)) (from : ℕ) (t : Table) : Type 0 where
   pub stored : IsStored sectors from t
   pub divided : IsTable stored.blocks
@@ -30,12 +30,12 @@ pub record AreImages (levels : Levels) (job : Job) (keys : List Bytes) (cuts : L
   pub tables : AreTablesAt keys (keep cuts (is_bottom levels job) (versions_of (inputs job))) images
   pub each : AllByRecursion IsTable images
 
--- Of images each has so many blocks at most, and all together so many.
+-- Each of these images has at most `largest` blocks, and all together at most `total`.
 pub record TakeAtMost (total largest : ℕ) (images : List TableBlocks) : Type 0 where
   pub each : AllByRecursion (λ image. extent_size image ≤ largest) images
   pub all : extent_blocks images ≤ total
 
--- So it is of the images that a merge makes, whatever entries its inputs have.
+-- That holds of the images that a merge makes, whatever entries its inputs have.
 abbrev pub MakesAtMost : Levels → Bool → Job → List Bytes → ℕ → ℕ → Type 0
 MakesAtMost levels live job keys total largest = (sectors : List (List ℕ)) (from : ℕ) (cuts : List ℕ) (images : List TableBlocks)
     → AllByRecursion (StandsDivided sectors from) (inputs job) → AreCuts live cuts → AreImages levels job keys cuts images → TakeAtMost total largest images

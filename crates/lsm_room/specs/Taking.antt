@@ -22,18 +22,18 @@ MayFollow levels jobs (Take step) = may_take levels jobs step.choice ≡ true
 MayFollow levels jobs (Try step) = may_take levels jobs step.choice ≡ true
 MayFollow levels jobs (Lacks choice wanted) = Unit {0}
 
--- whether a choice brings tables into the next level
+-- whether a choice merges tables into the next level
 abbrev pub goes_down : Choice → Bool
 goes_down (choice.OldestRuns count) = true
 goes_down (choice.Tables first last) = true
 goes_down (choice.Rewrite first last) = false
 
--- What a step makes finds room, divided as it is; one that brings tables down is undivided.
+-- The outputs of a step find room, divided as they are; one that merges tables down is undivided.
 pub record IsPlaced {A : Type 0} (area : Area) (levels : Levels) (live : Bool) (jobs : List Job) (step : Step A) : Type 0 where
   pub whole : goes_down step.choice ≡ true → step.divisions.items ≡ []
   pub room : (job : Job) → chosen levels jobs step.choice ≡ Some job → FindsRoom area levels live job step.divisions.items
 
--- So it is of one that is to be taken. What is only to be tried brings no table down.
+-- That holds of a step to be taken. One that is only to be tried merges no table down.
 abbrev pub AdvisesRoom : {A : Type 0} → Area → Levels → Bool → List Job → Advice A → Type 0
 AdvisesRoom area levels live jobs Nothing = Unit {0}
 AdvisesRoom area levels live jobs (Take step) = IsPlaced area levels live jobs step

@@ -15,22 +15,22 @@ use lsm_levels::HeldJobs;
 use lsm_mem::MemSize;
 use std::alloc::Allocator;
 
-/// Deletes in memory come to so many blocks of tables at most.
+/// Deletes in memory take at most this many blocks of tables.
 const DELETE_BLOCKS: u64 = 80;
 
-/// Puts are taken with so many tables at most.
+/// Puts are admitted with at most this many tables.
 const TABLES_FOR_PUTS: u64 = 795;
 
-/// Deletes are taken with so many tables at most without a step before.
+/// Deletes are admitted without a step before, with at most this many tables.
 const TABLES_FOR_DELETES: u64 = 900;
 
-/// Deletes are taken with fewer runs of level 0 than so many without a step before.
+/// Deletes are admitted without a step before, with fewer runs of level 0 than this.
 const RUNS_FOR_DELETES: usize = 10;
 
-/// An area of so many blocks or more takes what a full log holds, however much that is.
+/// An area of this many blocks or more has room for what a full log holds, however much that is.
 const LARGE_AREA: u64 = 8_192;
 
-/// The bytes that a block of deletes has at least: one of the largest has no room in it.
+/// The least bytes of a full block of deletes: one more of the largest doesn't fit.
 const DELETE_ROOM: u64 = 3_828;
 
 /// What is in memory: what waits for its flush, and the memtable before a batch and after it.
@@ -51,14 +51,14 @@ pub struct Reserve {
 }
 
 impl Reserve {
-    /// Those of an area of so many blocks.
+    /// Those of an area of `area` blocks.
     pub fn of(area: u64) -> Reserve
         ensures { result.area ≡ area }
     {
         Reserve { area }
     }
 
-    /// What steps want: one table is cut, or one goes down.
+    /// The blocks that a step needs: one table is cut, or one is merged down.
     pub fn for_steps(self) -> u64
         ensures least { 100 ≤ result }
         ensures most { result ≤ 200 }
@@ -72,7 +72,7 @@ impl Reserve {
         }
     }
 
-    /// What puts leave: for steps, and for deletes that come after them; and at least a sixth of the area.
+    /// The blocks that puts leave free: for steps, and for deletes after them; and at least a sixth of the area.
     pub fn for_puts(self) -> u64
         ensures { result ≤ 280 + self.area / 6 }
     {
@@ -81,19 +81,19 @@ impl Reserve {
             .max(self.area / 6)
     }
 
-    /// What is free besides behind steps that are taken for puts, so that each few puts don't ask for them again.
+    /// The blocks that are free in addition after steps for puts, so that steps aren't needed again after a few puts.
     pub fn to_spare(self) -> u64
         ensures { result ≡ self.area / 24 }
     {
         self.area / 24
     }
 
-    /// The blocks of deletes in memory from which on another log is opened.
+    /// The blocks of deletes in memory above which another log is opened.
     fn deletes(self) -> u64 {
         (self.area / 16).max(20)
     }
 
-    /// The blocks of all that is in memory from which on another log is opened, if the area is small.
+    /// The blocks of all that is in memory above which another log is opened, if the area is small.
     fn flush(self) -> u64 {
         if self.area >= LARGE_AREA {
             return u64::MAX;
@@ -102,7 +102,7 @@ impl Reserve {
     }
 }
 
-/// The blocks of tables of so many data blocks and entries.
+/// The blocks of tables of `data` data blocks and `entries` entries.
 fn blocks_of(data: u64, entries: u64) -> u64 {
     if entries == 0 {
         return 0;
@@ -110,12 +110,12 @@ fn blocks_of(data: u64, entries: u64) -> u64 {
     blocks_with(data, tables_of(data, entries))
 }
 
-/// The data blocks that entries of so many bytes take at most.
+/// The data blocks that entries of `bytes` bytes in all take at most.
 fn data_of(bytes: u64, largest: u64) -> u64 {
     packed(bytes.div_ceil(4_094), largest)
 }
 
-/// The blocks that the deletes in memory come to.
+/// The blocks that the deletes in memory take.
 fn delete_blocks(memory: MemSize) -> u64 {
     let data = (memory.delete_bytes / DELETE_ROOM)
         .saturating_add(1)
@@ -123,7 +123,7 @@ fn delete_blocks(memory: MemSize) -> u64 {
     blocks_of(data.saturating_add(memory.deletes / 3_200), memory.deletes)
 }
 
-/// The blocks of a flush, by which it is told whether memory is small. What a flush takes at most is told by [`flush_outputs`].
+/// The blocks of a flush, by which memory counts as small or not. What a flush takes at most is [`flush_outputs`].
 pub fn flush_blocks(memory: MemSize) -> u64 {
     let by_bytes = data_of(memory.bytes, memory.largest);
     let by_count = filled(memory.entries, memory.largest);
@@ -171,7 +171,7 @@ fn charge_of(memory: MemSize) -> u64 {
         .saturating_add(memory.large)
 }
 
-/// Whether memory is small enough that more may come into it, where there is some.
+/// Whether memory that isn't empty is small enough to take more.
 pub fn is_small(reserve: Reserve, memory: MemSize) -> bool {
     delete_blocks(memory) <= reserve.deletes() && flush_blocks(memory) <= reserve.flush()
 }
@@ -184,13 +184,13 @@ impl<'a, H: HeldJobs, A: Allocator> Standing<'a, H, A> {
         Reserve::of(self.area())
     }
 
-    /// Whether the memtable may become so much: its flush will find room, that of what waits will too, and so will what they make of the
-    /// last level. Of deletes alone less is asked, and more of them are taken where puts find room too. Where nothing was there, puts are
-    /// taken unless the store is crowded.
+    /// Whether the memtable may become `memory.after`: its flush will find room, that of what waits will too, and so will the last level
+    /// with both. For deletes alone less is required, and more are admitted where puts find room too. Where memory was empty, puts are
+    /// admitted unless the store is crowded.
     pub fn admits(&self, memory: InMemory, puts: bool) -> bool
         ensures crowded { result ≡ false → memory.before.entries ≡ 0 → memory.waiting ≡ no_size → puts ≡ true → IsCrowded (taken_blocks self.now.levels.now) (free_count self.now.extents.now) (table_count self.now.levels.now) (blocks_for memory.after.bytes memory.after.entries) }
 
-        // Whatever is admitted, a hundred blocks stay free beside the flushes.
+        // Whatever is admitted, a hundred blocks stay free after the flushes.
         ensures room { result ≡ true → FlushesLeave 100 (free_count self.now.extents.now) self.now.live memory.waiting memory.after }
     {
         let after = counted(memory.after, self.live);
@@ -207,7 +207,7 @@ impl<'a, H: HeldJobs, A: Allocator> Standing<'a, H, A> {
             && self.has_room_for(memory, taken)
     }
 
-    // Whether memory with a batch leaves what puts leave, where all has come to the last level, and its flush what steps want.
+    // Whether what puts leave is free once all is in the last level, with memory and a batch, and after its flush what steps need.
     fn has_room_for(&self, memory: InMemory, taken: u64) -> bool
         requires { taken ≡ min (taken_blocks self.now.levels.now) 18446744073709551615 }
         ensures crowded { result ≡ false → memory.waiting ≡ no_size → IsCrowded (taken_blocks self.now.levels.now) (free_count self.now.extents.now) (table_count self.now.levels.now) (blocks_for memory.after.bytes memory.after.entries) }
@@ -229,7 +229,7 @@ impl<'a, H: HeldJobs, A: Allocator> Standing<'a, H, A> {
         self.levels.runs().len() < RUNS_FOR_DELETES
     }
 
-    /// Whether the memtable may become as large as `most` by whatever puts and deletes: then each batch that leaves it within is admitted, as
+    /// Whether the memtable may become as large as `most` by any puts and deletes: then each batch that keeps it within is admitted, as
     /// long as the tables, the free blocks and what waits are the same.
     pub fn admits_up_to(&self, memory: InMemory, most: MemSize) -> bool
         ensures { result ≡ true → FlushesLeave 100 (free_count self.now.extents.now) self.now.live memory.waiting most }
@@ -251,7 +251,7 @@ impl<'a, H: HeldJobs, A: Allocator> Standing<'a, H, A> {
             && self.admits(all, true)
     }
 
-    /// Whether it admits so much with some blocks to spare, and few runs are in level 0.
+    /// Whether it admits `memory` with some blocks to spare, and few runs are in level 0.
     pub fn admits_easily(&self, memory: InMemory, puts: bool) -> bool {
         let after = counted(memory.after, self.live);
         let reserve = self.reserve();
@@ -263,7 +263,7 @@ impl<'a, H: HeldJobs, A: Allocator> Standing<'a, H, A> {
                 || self.leaves(together(memory.waiting, after), reserve.area, spare))
     }
 
-    /// Whether besides the reserve of puts some blocks are free to spare.
+    /// Whether the reserve of puts and the blocks to spare are free.
     pub fn has_spare(&self) -> bool
         ensures { result ≡ false → IsCrowded (taken_blocks self.now.levels.now) (free_count self.now.extents.now) (table_count self.now.levels.now) 0 }
     {
@@ -271,7 +271,7 @@ impl<'a, H: HeldJobs, A: Allocator> Standing<'a, H, A> {
         self.free() >= reserve.for_puts().saturating_add(reserve.to_spare())
     }
 
-    // Whether the flushes leave what steps want.
+    // Whether the flushes leave what steps need.
     fn leaves_flushes(&self, memory: InMemory, reserve: Reserve) -> bool
         ensures crowded { result ≡ false → memory.waiting ≡ no_size → free_count self.now.extents.now < 6 * div_ceil memory.after.bytes 4094 + 6 * (memory.after.entries / 3200) + 220 }
         ensures room { result ≡ true → FlushesLeave 100 (free_count self.now.extents.now) self.now.live memory.waiting memory.after }
@@ -285,7 +285,7 @@ impl<'a, H: HeldJobs, A: Allocator> Standing<'a, H, A> {
             <= self.free()
     }
 
-    // Whether the memtable may have deletes alone: they are few, and the flushes leave what steps want.
+    // Whether the memtable may have deletes alone: they are few, and the flushes leave what steps need.
     fn admits_deletes(&self, memory: InMemory, reserve: Reserve) -> bool
         ensures { result ≡ true → FlushesLeave 100 (free_count self.now.extents.now) self.now.live memory.waiting memory.after }
     {
@@ -295,7 +295,7 @@ impl<'a, H: HeldJobs, A: Allocator> Standing<'a, H, A> {
             && self.has_few_runs()
     }
 
-    // Whether so many blocks are left where all that stands and memory has come to the last level.
+    // Whether `blocks` blocks are left once all tables and memory are in the last level.
     fn leaves(&self, memory: MemSize, area: u64, blocks: u64) -> bool
         ensures { result ≡ false → 8 * free_count self.now.extents.now < 9 * taken_blocks self.now.levels.now + 18 * div_ceil memory.bytes 4094 + 33 * (table_count self.now.levels.now + memory.entries / 3200) + 83 + 8 * blocks }
     {

@@ -55,7 +55,7 @@ impl Outputs {
         }
     }
 
-    /// These and others beside them.
+    /// These and others together.
     pub(crate) fn beside(self, others: Outputs) -> Outputs
         ensures { result.blocks < 4294967296 → AreBeside self others result }
     {
@@ -180,7 +180,7 @@ pub(crate) fn data_of<A: Allocator>(table: &PlacedTable<A>) -> u64
     table.table().data_blocks() as u64
 }
 
-/// The blocks of images of so many data blocks, each with an index, a filter and a footer.
+/// The blocks of `tables` images of `data` data blocks in all, each with an index, a filter and a footer.
 pub(crate) fn blocks_with(data: u64, tables: u64) -> u64
     ensures most { result ≤ «data» + 264 * «data» / 4096 + 1 + 3 * tables }
     ensures least { result < 4294967296 → «data» + (div_ceil (264 * «data») 4096 + 3 * tables) ≤ result }
@@ -190,7 +190,7 @@ pub(crate) fn blocks_with(data: u64, tables: u64) -> u64
         .saturating_add(tables.saturating_mul(3))
 }
 
-/// How many images there are at most of so many data blocks and entries.
+/// How many images there are at most of `data` data blocks and `entries` entries.
 pub(crate) fn tables_of(data: u64, entries: u64) -> u64
     ensures { result ≤ «data» / 64 + entries / 3200 + 1 }
 {
@@ -199,7 +199,7 @@ pub(crate) fn tables_of(data: u64, entries: u64) -> u64
         .saturating_add(1)
 }
 
-/// The data blocks that entries take at most in any division, where they take so many in one, and none has more bytes.
+/// The data blocks that entries take at most in any division, where they take `data` in one, and none has more than `largest` bytes.
 pub(crate) fn packed(data: u64, largest: u64) -> u64
     ensures most { result ≤ 2 * «data» + 1 }
     ensures small { result < 4294967296 → largest ≤ 2047 → (4094 * «data») / (4095 - largest) + 1 ≤ result }
@@ -214,8 +214,8 @@ pub(crate) fn packed(data: u64, largest: u64) -> u64
     (bytes / least).saturating_add(1)
 }
 
-/// The data blocks that so many entries take at most, where none has more bytes: each block but the last has as many of them as of the
-/// largest have room.
+/// The data blocks that `entries` entries take at most, where none has more than `largest` bytes: each block but the last has as many as of
+/// the largest fit.
 pub(crate) fn filled(entries: u64, largest: u64) -> u64
     ensures small { result < 4294967296 → 0 < largest → largest ≤ 4094 → entries / (4094 / largest) + 1 ≤ result }
     ensures any { result < 4294967296 → 4094 < largest → entries + 1 ≤ result }
@@ -231,7 +231,7 @@ pub(crate) fn filled(entries: u64, largest: u64) -> u64
         .saturating_add(2)
 }
 
-/// How many images a merge makes at most of so many data blocks and entries. Where a snapshot is live, a table may end up to 33 entries
+/// How many images a merge makes at most of `data` data blocks and `entries` entries. With a live snapshot a table may end up to 33 entries
 /// before it is full, since those of a key stay together.
 fn images_of(data: u64, entries: u64, live: bool) -> u64
     ensures least { result < 4294967296 → most_images live «data» entries ≤ result }
@@ -244,7 +244,7 @@ fn images_of(data: u64, entries: u64, live: bool) -> u64
         .saturating_add(1)
 }
 
-/// The outputs of so many data blocks and entries.
+/// The outputs of `data` data blocks and `entries` entries.
 fn outputs_with(data: u64, entries: u64, live: bool) -> Outputs
     ensures hold { HoldImages live «data» entries result }
     ensures few { result.blocks ≤ 3 * «data» + 5 * (entries / 3168) + 10 }
@@ -259,7 +259,7 @@ fn outputs_with(data: u64, entries: u64, live: bool) -> Outputs
     }
 }
 
-/// The outputs of so many data blocks and entries: where that is one image, just its data blocks, its index, its filter and its footer.
+/// The outputs of `data` data blocks and `entries` entries: where that is one image, just its data blocks, index, filter and footer.
 pub(crate) fn outputs_for(data: u64, entries: u64, live: bool) -> Outputs
     ensures enough { AreEnoughFor live «data» entries result }
     ensures few { result.blocks < 4294967296 → («data» < 4294967296) × (entries < 18446744073709551614) }
@@ -290,14 +290,14 @@ pub fn flush_outputs(memory: MemSize, live: bool) -> Outputs
     outputs_with(by_bytes.min(by_count), memory.entries, live)
 }
 
-/// The outputs of a run that goes down alone, or is written anew.
+/// The outputs of a run that is merged down alone, or rewritten.
 fn alone(sizes: Sizes, live: bool) -> Outputs
     ensures { AreEnough live sizes result }
 {
     outputs_for(sizes.data.max(1), sizes.entries, live)
 }
 
-/// The outputs of a merge of a run with the run below it. Where it `drops` deletes, none of the upper ones comes into an output.
+/// The outputs of a merge of a run with the run below it. Where it `drops` deletes, none of the upper ones is in an output.
 pub(crate) fn merged(upper: Sizes, lower: Sizes, drops: bool, live: bool) -> Outputs
     ensures alone { lower.«data» ≡ 0 → AreEnough live upper result }
     ensures over { AreEnoughOver live drops upper lower result ⊎ (lower.«data» ≡ 0) }
@@ -346,7 +346,7 @@ fn of_runs<A: Allocator>(
     mixed(upper, below, drops, live)
 }
 
-// Whether a merge drops deletes: nothing lies below, and no snapshot is live.
+// Whether a merge drops deletes: nothing is below, and no snapshot is live.
 fn drops_deletes<A: Allocator>(levels: &Levels<A>, job: &Pick<'_, A>, live: bool) -> bool
     ensures { result ≡ (not live && is_bottom levels.now (job_of job.now)) }
 {

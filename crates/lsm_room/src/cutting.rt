@@ -1,4 +1,4 @@
-//! Tables that are written anew in pieces.
+//! Tables that are rewritten in pieces.
 
 use crate::bounds::{BLOCK, INDEX_BYTES, Outputs};
 use lsm_codec::{Edge, Key};
@@ -8,7 +8,7 @@ use std::alloc::{AllocError, Allocator};
 /// The bytes that the index has for a block besides its last key.
 const EDGE: u64 = 9;
 
-/// The blocks of an image of data blocks with these edges, and of an index that is longer by so many bytes.
+/// The blocks of an image of data blocks with these edges, and of an index that is longer by `more` bytes.
 fn blocks_between<A: Allocator>(edges: &[Edge<A>], more: u64) -> u64 {
     let mut index = more;
     for edge in edges {
@@ -26,7 +26,7 @@ pub(crate) fn blocks_of_piece<A: Allocator>(piece: &[Edge<A>]) -> u64 {
     blocks_between(piece, 0)
 }
 
-/// How many of the first of these data blocks an image has at most that takes so many blocks.
+/// How many of the first of these data blocks fit an image of at most `most` blocks.
 pub(crate) fn length_within<A: Allocator>(edges: &[Edge<A>], most: u64) -> usize {
     let mut index: u64 = 0;
     for (i, edge) in edges.iter().enumerate() {
@@ -43,7 +43,7 @@ pub(crate) fn length_within<A: Allocator>(edges: &[Edge<A>], most: u64) -> usize
     edges.len()
 }
 
-/// What the pieces of a table take, where each has so many of its data blocks.
+/// What the pieces of a table take, where each but the last has `length` of its data blocks.
 pub(crate) fn pieces_of<A: Allocator>(table: &PlacedTable<A>, length: usize) -> Outputs {
     let mut outputs = Outputs::none();
     for piece in table.table().edges().chunks(length.max(1)) {
@@ -62,7 +62,7 @@ pub(crate) fn parts_at<A: Allocator>(table: &PlacedTable<A>, key: &[u8]) -> Outp
     let edges = table.table().edges();
     let before = table.table().blocks_before(key).min(edges.len());
     let (whole, rest) = edges.split_at(before);
-    // The block in which the key lies goes to both.
+    // The block with the key counts for both.
     let front = blocks_between(whole, INDEX_BYTES).saturating_add(1);
     let back = blocks_between(rest, 0);
     Outputs {
@@ -72,7 +72,7 @@ pub(crate) fn parts_at<A: Allocator>(table: &PlacedTable<A>, key: &[u8]) -> Outp
     }
 }
 
-/// The keys at which a table is cut behind each so many of its data blocks.
+/// The keys at which a table is cut after each `length` of its data blocks.
 pub(crate) fn cuts_behind<A: Allocator + Clone>(
     alloc: &A,
     table: &PlacedTable<A>,
@@ -90,7 +90,7 @@ pub(crate) fn cuts_behind<A: Allocator + Clone>(
     Ok(cuts)
 }
 
-/// Adds the cut behind a piece.
+/// Adds the cut after a piece.
 pub(crate) fn push_cut<A: Allocator + Clone>(
     alloc: &A,
     cuts: &mut Vec<Key<A>, A>,

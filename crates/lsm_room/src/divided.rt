@@ -13,8 +13,8 @@ use lsm_codec::Key;
 use lsm_levels::{Levels, Pick, PlacedTable};
 use std::alloc::Allocator;
 
-/// What the two parts of a table take at most that is cut at a key, where a snapshot is live or none is. The block in which the key lies
-/// goes to both.
+/// What the two parts of a table that is cut at a key take at most, where a snapshot is live or none is. The block with the key
+/// counts for both.
 pub(crate) fn parts_of<A: Allocator>(table: &PlacedTable<A>, key: &[u8], live: bool) -> Outputs
     ensures { AreEnoughAt live key.now table.now result }
 {

@@ -33,14 +33,14 @@ pub(crate) fn gaps_of<A: Allocator + Clone>(
     Ok(found)
 }
 
-/// The place of the lowest gap that has so many blocks.
+/// The place of the lowest gap that has `blocks` blocks.
 fn lowest_with(gaps: &[Extent], blocks: u32) -> Option<usize>
     ensures { result ≡ position (has_blocks blocks) gaps.now }
 {
     gaps.iter().position(|gap| gap.blocks >= blocks)
 }
 
-/// Takes so many blocks of the lowest gap that has as many.
+/// Takes `blocks` blocks of the lowest gap that has as many, and returns the first one.
 fn take_at(gaps: &mut [Extent], place: usize, blocks: u32) -> u32
     requires { position (has_blocks blocks) gaps.old ≡ Some place }
     ensures { TakesLowest blocks gaps.old gaps.new result }
@@ -53,7 +53,7 @@ fn take_at(gaps: &mut [Extent], place: usize, blocks: u32) -> u32
     gap.first
 }
 
-/// Takes the lowest run of so many blocks, and answers its first one. None where no gap is so long.
+/// Takes the lowest run of `blocks` blocks, and returns its first one. `None` where no gap is that long.
 pub(crate) fn take_lowest(gaps: &mut [Extent], blocks: u32) -> Option<u32>
     ensures { MatchOption result
         (HasNone blocks gaps.old × (gaps.new ≡ gaps.old))
@@ -76,7 +76,7 @@ pub(crate) fn longest_below(gaps: &[Extent], below: u32) -> u32 {
     longest
 }
 
-/// The blocks of the longest gap, where so many blocks from one on get free beside them.
+/// The blocks of the longest gap, once `blocks` blocks from `first` on are free too.
 pub(crate) fn longest_with(gaps: &[Extent], first: u32, blocks: u32) -> u32 {
     let mut longest = 0;
     let mut freed = blocks;

@@ -52,7 +52,7 @@ impl Group {
         }
     }
 
-    // The data blocks of the one table: those of all, or one that has room for so many of the largest entry.
+    // The data blocks of the one table: those of all, or one where all entries fit in one even if each were the largest.
     fn joined(self) -> u64 {
         if self.entries.saturating_mul(self.largest) <= ROOM {
             return 1;
@@ -72,7 +72,7 @@ impl Group {
 }
 
 /// The joining of the most neighbours that fit one table and are sure to find room, of the first level that has more than twice the tables
-/// that its entries want.
+/// that its entries need.
 pub(crate) fn join_of<H: HeldJobs, A: Allocator>(standing: &Standing<'_, H, A>) -> Option<Choice>
     ensures { IfSome result (λ choice. goes_down choice ≡ false) }
 {
@@ -86,7 +86,7 @@ pub(crate) fn join_of<H: HeldJobs, A: Allocator>(standing: &Standing<'_, H, A>) 
     None
 }
 
-// Whether a level has more than twice the tables that its entries want.
+// Whether a level has more than twice the tables that its entries need.
 fn has_many<A: Allocator>(run: &Run<A>) -> bool {
     let mut all = Group::none(0);
     for table in run.tables() {

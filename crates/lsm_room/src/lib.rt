@@ -1,16 +1,16 @@
 //! What a store has to know so that it never gets stuck: whether a batch may be taken, and which step comes next where room is scarce.
 //!
-//! A store that takes batches until no block is free can't make room any more, since each merge wants free blocks for what it
+//! A store that takes batches until no block is free can't make room any more, since each merge needs free blocks for what it
 //! makes. So [`Standing::admits`] says whether a batch may be taken: what is in memory will find room, in a flush and in the last level,
 //! and some blocks stay free, the [`Reserve`]. Where room is scarce, [`Standing::step_down`] advises a step: a merge that is sure to find room,
 //! or one of the small steps that make it possible. A table is cut at the first key of one that it meets, or halved; or
-//! one is written anew elsewhere, so that free blocks come to lie side by side; or small neighbours are joined.
+//! one is rewritten elsewhere, so that free blocks become adjacent; or small neighbours are joined.
 //!
 //! A step that is advised by [`Advice::Take`] finds room, whatever entries its tables have, if no other job takes blocks before. That is a
-//! clause, of small steps too ([`Standing::is_sure_at`]). [`Advice::Try`] is for small steps that only probably do: how long the index of
-//! a table gets that is written anew depends on keys that only its blocks tell.
+//! clause, of small steps too ([`Standing::is_sure_at`]). [`Advice::Try`] is for small steps that only probably do: how long the index
+//! of a rewritten table gets depends on keys that are only in its blocks.
 //!
-//! What the outputs of a merge take at most is reckoned from the numbers of its tables (`Outputs`), and whether so much surely finds room from
+//! What the outputs of a merge take at most is computed from the numbers of its tables (`Outputs`), and whether that surely finds room from
 //! the gaps between extents ([`Extents::surely_places`](lsm_extent::Extents::surely_places)).
 #![tactic(auto)]
 

@@ -1,4 +1,4 @@
-//! Tables that are moved so that free blocks come to lie side by side.
+//! Tables that are moved so that free blocks become adjacent.
 
 ghost use Rattle.std.specs.Prelude.{◌≡◌, false, IfOk, IfSome};
 ghost use Rattle.lsm_room.specs.Taking.{goes_down};
@@ -15,14 +15,14 @@ use std::alloc::{AllocError, Allocator};
 /// The data blocks that a table has at most, and so the pieces.
 const MOST_PIECES: usize = 64;
 
-/// A move makes no more tables than so many.
+/// A move is made only if the tables and its pieces are at most this many.
 const MOST_TABLES: u64 = 1_000;
 
-/// The move of a table of levels 1 to 4, whole or in pieces that fill the longest gaps first: the one behind which the longest gap is
-/// longest, where it is longer than before. Else the one of the table that lies highest of those whose pieces all find room below it, where
+/// The move of a table of levels 1 to 4, whole or in pieces that fill the longest gaps first: the one after which the longest gap is
+/// longest, where it is longer than before. Else the one of the highest table of those whose pieces all find room below it, where
 /// the longest gap doesn't get shorter.
 ///
-/// So the longest gap gets longer with each move, or else what is taken comes to lie lower: there is no endless row of moves.
+/// So each move makes the longest gap longer, or else moves blocks lower: the moves come to an end.
 pub(crate) fn move_of<H: HeldJobs, A: Allocator + Clone>(
     standing: &Standing<'_, H, A>,
     alloc: &A,
@@ -38,7 +38,7 @@ pub(crate) fn move_of<H: HeldJobs, A: Allocator + Clone>(
     }
 }
 
-/// The table behind whose move the longest gap is longest, where it is longer than before. Of equal ones the smallest.
+/// The table after whose move the longest gap is longest, where it is longer than before. Of equal ones the smallest.
 fn best_anywhere<'a, H: HeldJobs, A: Allocator + Clone>(
     standing: &Standing<'a, H, A>,
     alloc: &A,
@@ -66,7 +66,7 @@ fn is_smaller<A: Allocator>(table: &PlacedTable<A>, found: Option<&PlacedTable<A
     }
 }
 
-/// The table that lies highest of those that may be moved below their place, where the longest gap doesn't get shorter.
+/// The highest table of those that may be moved below their place, where the longest gap doesn't get shorter.
 fn highest_lowered<'a, H: HeldJobs, A: Allocator + Clone>(
     standing: &Standing<'a, H, A>,
     alloc: &A,
@@ -86,7 +86,7 @@ fn highest_lowered<'a, H: HeldJobs, A: Allocator + Clone>(
     Ok(found)
 }
 
-// Whether a table lies higher than the one that was found, if one was.
+// Whether a table is higher than the one that was found, if one was.
 fn lies_higher<A: Allocator>(table: &PlacedTable<A>, found: Option<&PlacedTable<A>>) -> bool {
     match found {
         Some(other) => table.first_block() > other.first_block(),
@@ -94,7 +94,7 @@ fn lies_higher<A: Allocator>(table: &PlacedTable<A>, found: Option<&PlacedTable<
     }
 }
 
-// The longest gap behind the move of a table into gaps that begin below a block; none where its pieces don't find room there.
+// The longest gap after the move of a table into gaps that begin below a block; `None` where its pieces don't find room there.
 fn longest_behind<H: HeldJobs, A: Allocator + Clone>(
     standing: &Standing<'_, H, A>,
     alloc: &A,
@@ -160,7 +160,7 @@ fn step_of<H: HeldJobs, A: Allocator + Clone>(
     })
 }
 
-// Takes the lowest run for a piece with these edges, and answers its first block.
+// Takes the lowest run for a piece with these edges, and returns its first block.
 fn take_for<A: Allocator>(gaps: &mut [Extent], piece: &[Edge<A>]) -> Option<u32> {
     match u32::try_from(blocks_of_piece(piece)) {
         Ok(blocks) => take_lowest(gaps, blocks),

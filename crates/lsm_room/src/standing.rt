@@ -1,4 +1,4 @@
-//! What a choice is made over.
+//! The state of a store on which a choice is made.
 
 ghost use Rattle.std.specs.Prelude.{◌≡◌, ◌+◌, ◌≤◌, ◌<◌, [], true, false, length, is_some, Some, IfSome};
 ghost use Prim.Native.Nat.{min};
@@ -22,25 +22,25 @@ use lsm_extent::Extents;
 use lsm_levels::{Choice, HeldJobs, Levels, Pick, Run};
 use std::alloc::{Allocator, Global};
 
-/// A merge of several tables takes in so many blocks at most.
+/// A merge of several tables takes in at most this many blocks.
 pub(crate) const MOST_BLOCKS: u64 = 512;
 
 /// The tables that a store has at most.
 pub(crate) const MOST_TABLES: u64 = 1_024;
 
-/// The last level of a store of at most so many blocks is level 2, and of more level 3.
+/// The last level of a store of at most this many blocks is level 2, and of more level 3.
 const SMALL_AREA: u64 = 2_048;
 
-/// The last level of a store of more blocks is level 4.
+/// The last level of a store of more than this many blocks is level 4.
 const LARGE_AREA: u64 = 16_384;
 
-/// What stands in a store: the tables, which blocks are free, the jobs that hold slots, and whether a snapshot is live.
+/// What is in a store: the tables, which blocks are free, the jobs that hold slots, and whether a snapshot is live.
 #[derive(Drop)]
 pub struct Standing<'a, H: HeldJobs, A: Allocator = Global> {
     pub levels: &'a Levels<A>,
     pub extents: &'a Extents<A>,
     pub held: &'a H,
-    /// Whether a snapshot is live, so that no delete may go.
+    /// Whether a snapshot is live, so that no delete may be dropped.
     pub live: bool,
 }
 
@@ -74,12 +74,12 @@ impl<'a, H: HeldJobs, A: Allocator> Standing<'a, H, A> {
         count_with(count_with(0, self.levels.runs()), self.levels.deeper())
     }
 
-    /// The level that all tables come to: the deepest that has some, or by the size of the area a deeper one.
+    /// The level that all tables are merged into: the deepest that has some, or by the size of the area a deeper one.
     pub(crate) fn last_level(&self) -> usize {
         self.last_level_of(self.area())
     }
 
-    /// That of an area of so many blocks.
+    /// That of an area of `area` blocks.
     pub(crate) fn last_level_of(&self, area: u64) -> usize {
         let least = if area <= SMALL_AREA {
             2
@@ -103,7 +103,7 @@ impl<'a, H: HeldJobs, A: Allocator> Standing<'a, H, A> {
         found
     }
 
-    /// Whether outputs of so many blocks are sure to find room, where so many tables go.
+    /// Whether outputs are sure to find room, in blocks and among the tables, of which `gone` are removed.
     pub(crate) fn places(&self, outputs: Outputs, gone: u64) -> bool
         ensures room { result ≡ true → SurelyFit self.now.extents.now outputs.blocks outputs.largest }
         ensures number { result ≡ true → 0 < outputs.blocks → table_count self.now.levels.now + outputs.tables ≤ gone + 1024 }
@@ -112,7 +112,7 @@ impl<'a, H: HeldJobs, A: Allocator> Standing<'a, H, A> {
         outputs.blocks == 0 || (self.has_tables(outputs, gone) && self.has_room(outputs))
     }
 
-    // Whether there are not too many tables with the outputs, where so many go.
+    // Whether there are not too many tables with the outputs, where `gone` are removed.
     fn has_tables(&self, outputs: Outputs, gone: u64) -> bool
         ensures { result ≡ true → table_count self.now.levels.now + outputs.tables ≤ gone + 1024 }
     {
@@ -120,7 +120,7 @@ impl<'a, H: HeldJobs, A: Allocator> Standing<'a, H, A> {
         all < u64::MAX && all.saturating_sub(gone).saturating_add(outputs.tables) <= MOST_TABLES
     }
 
-    /// Whether outputs of so many blocks are sure to find room, however many tables there are.
+    /// Whether outputs are sure to find room in blocks, however many tables there are.
     pub fn has_room(&self, outputs: Outputs) -> bool
         ensures room { result ≡ true → SurelyFit self.now.extents.now outputs.blocks outputs.largest }
         ensures few { result ≡ true → outputs.blocks < 4294967296 }
@@ -153,7 +153,7 @@ impl<'a, H: HeldJobs, A: Allocator> Standing<'a, H, A> {
         }
     }
 
-    /// Whether a choice may be taken, and its outputs, undivided, are sure to find room. Several tables take in so many blocks at most.
+    /// Whether a choice may be taken, and its outputs, undivided, are sure to find room, and it takes in at most `most_blocks` blocks.
     pub fn is_sure(&self, choice: Choice, most_blocks: u64) -> bool
         ensures may { result ≡ true → may_take self.now.levels.now (H.jobs self.now.held.now) choice ≡ true }
         ensures room { result ≡ true → (job : Job) → chosen self.now.levels.now (H.jobs self.now.held.now) choice ≡ Some job → FindsRoom self.now.extents.now self.now.levels.now self.now.live job [] }
@@ -193,7 +193,7 @@ impl<'a, H: HeldJobs, A: Allocator> Standing<'a, H, A> {
     }
 }
 
-/// Some blocks and those of the tables of runs.
+/// `before` blocks and those of the tables of runs.
 fn blocks_of_runs<A: Allocator>(before: u64, runs: &[Run<A>]) -> u64
     ensures { result ≡ min (before + blocks_in (all_tables runs.now)) 18446744073709551615 }
 {
@@ -204,7 +204,7 @@ fn blocks_of_runs<A: Allocator>(before: u64, runs: &[Run<A>]) -> u64
     blocks
 }
 
-/// So many tables and those of runs.
+/// `before` tables and those of runs.
 fn count_with<A: Allocator>(before: u64, runs: &[Run<A>]) -> u64
     ensures { result ≡ min (before + length (all_tables runs.now)) 18446744073709551615 }
 {

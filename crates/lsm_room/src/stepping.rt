@@ -27,10 +27,10 @@ pub enum Advice<A: Allocator = Global> {
     Nothing,
     /// A step, whose outputs are sure to find room.
     Take(Step<A>),
-    /// A step that writes tables anew in their own level. Its outputs probably find room, but aren't sure to.
+    /// A step that rewrites tables in their own level. Its outputs probably find room, but aren't sure to.
     Try(Step<A>),
-    /// No step is sure to find room, not even one that makes room: what is to go down first wants so much. Or a job that holds a slot
-    /// stands in the way of the step; then nothing is wanted.
+    /// No step is sure to find room, not even one that makes room: `choice` comes first, and needs `wanted`. Or a job that holds a slot
+    /// is in the way of the step; then `wanted` is nothing.
     Lacks { choice: Choice, wanted: Outputs },
 }
 
@@ -46,11 +46,11 @@ impl<A: Allocator + Clone> Step<A> {
 }
 
 impl<'a, H: HeldJobs, A: Allocator + Clone> Standing<'a, H, A> {
-    /// The next step of those that bring all tables into the last level, the deepest ones first.
+    /// The next step of those that merge all tables into the last level, the deepest ones first.
     ///
-    /// It is a merge that is sure to find room, if there is one. Else of the table that meets the fewest of the next level it is one of
+    /// It is a merge that is sure to find room, if there is one. Else, of the table that meets the fewest of the next level, it is one of
     /// these that is: the table is cut at one of those it meets; or the larger of the two is halved. Else a table is moved so that free
-    /// blocks come to lie side by side.
+    /// blocks become adjacent.
     pub fn step_down(&self, alloc: &A) -> Result<Advice<A>, AllocError>
         ensures may { IfOk result (λ advice. MayFollow self.now.levels.now (H.jobs self.now.held.now) advice) }
         ensures room { IfOk result (λ advice. AdvisesRoom self.now.extents.now self.now.levels.now self.now.live (H.jobs self.now.held.now) advice) }
@@ -59,7 +59,7 @@ impl<'a, H: HeldJobs, A: Allocator + Clone> Standing<'a, H, A> {
         Ok(self.step_down_to(alloc, last)?)
     }
 
-    /// The next step of those that bring all tables into a level.
+    /// The next step of those that merge all tables into a level.
     pub fn step_down_to(&self, alloc: &A, last: usize) -> Result<Advice<A>, AllocError>
         ensures may { IfOk result (λ advice. MayFollow self.now.levels.now (H.jobs self.now.held.now) advice) }
         ensures room { IfOk result (λ advice. AdvisesRoom self.now.extents.now self.now.levels.now self.now.live (H.jobs self.now.held.now) advice) }
@@ -68,7 +68,7 @@ impl<'a, H: HeldJobs, A: Allocator + Clone> Standing<'a, H, A> {
         Ok(self.unless_held(advice))
     }
 
-    // A step, where no job that holds a slot stands in its way.
+    // A step, where no job that holds a slot is in its way.
     fn if_free(&self, step: Step<A>) -> Option<Step<A>>
         ensures same { IfSome result (λ s. s ≡ step) }
         ensures may { IfSome result (λ s. may_take self.now.levels.now (H.jobs self.now.held.now) s.choice ≡ true) }
@@ -79,7 +79,7 @@ impl<'a, H: HeldJobs, A: Allocator + Clone> Standing<'a, H, A> {
         None
     }
 
-    // The advice, where no job that holds a slot stands in its way.
+    // The advice, where no job that holds a slot is in its way.
     fn unless_held(&self, advice: Advice<A>) -> Advice<A>
         ensures may { MayFollow self.now.levels.now (H.jobs self.now.held.now) result }
         ensures room { AdvisesRoom self.now.extents.now self.now.levels.now self.now.live (H.jobs self.now.held.now) advice → AdvisesRoom self.now.extents.now self.now.levels.now self.now.live (H.jobs self.now.held.now) result }
@@ -116,7 +116,7 @@ impl<'a, H: HeldJobs, A: Allocator + Clone> Standing<'a, H, A> {
         }
     }
 
-    // A step that writes tables anew: it is to be taken if it is sure to find room, and to be tried if not.
+    // A step that rewrites tables: it is to be taken if it is sure to find room, and to be tried if not.
     fn rewriting(&self, step: Step<A>) -> Advice<A>
         ensures { goes_down step.choice ≡ false → AdvisesRoom self.now.extents.now self.now.levels.now self.now.live (H.jobs self.now.held.now) result }
     {
@@ -188,7 +188,7 @@ impl<'a, H: HeldJobs, A: Allocator + Clone> Standing<'a, H, A> {
         }
     }
 
-    // A step that lets a table go down, over these that it meets.
+    // A step towards merging a table down into these that it meets.
     fn step_of_table(
         &self,
         alloc: &A,
@@ -216,7 +216,7 @@ impl<'a, H: HeldJobs, A: Allocator + Clone> Standing<'a, H, A> {
         self.make_room(alloc, choice, parts)
     }
 
-    // A step that makes room for a choice, where so much is wanted.
+    // A step that makes room for a choice, which needs `wanted`.
     fn make_room(&self, alloc: &A, choice: Choice, wanted: Outputs) -> Result<Advice<A>, AllocError>
         ensures { IfOk result (λ advice. AdvisesRoom self.now.extents.now self.now.levels.now self.now.live (H.jobs self.now.held.now) advice) }
     {
@@ -226,7 +226,7 @@ impl<'a, H: HeldJobs, A: Allocator + Clone> Standing<'a, H, A> {
         }
     }
 
-    /// The next step that makes free blocks lie side by side, if there is one.
+    /// The next step that makes free blocks adjacent, if there is one.
     pub fn step_aside(&self, alloc: &A) -> Result<Advice<A>, AllocError>
         ensures may { IfOk result (λ advice. MayFollow self.now.levels.now (H.jobs self.now.held.now) advice) }
         ensures room { IfOk result (λ advice. AdvisesRoom self.now.extents.now self.now.levels.now self.now.live (H.jobs self.now.held.now) advice) }
@@ -237,7 +237,7 @@ impl<'a, H: HeldJobs, A: Allocator + Clone> Standing<'a, H, A> {
         }
     }
 
-    /// The next step that joins neighbours, of a level that has more than twice the tables that its entries want.
+    /// The next step that joins neighbours, of a level that has more than twice the tables that its entries need.
     pub fn step_together(&self, alloc: &A) -> Result<Advice<A>, AllocError>
         ensures may { IfOk result (λ advice. MayFollow self.now.levels.now (H.jobs self.now.held.now) advice) }
         ensures room { IfOk result (λ advice. AdvisesRoom self.now.extents.now self.now.levels.now self.now.live (H.jobs self.now.held.now) advice) }
@@ -248,7 +248,7 @@ impl<'a, H: HeldJobs, A: Allocator + Clone> Standing<'a, H, A> {
         }
     }
 
-    // A step that writes tables anew, where no job that holds a slot stands in its way.
+    // A step that rewrites tables, where no job that holds a slot is in its way.
     fn rewriting_if_free(&self, step: Step<A>) -> Advice<A>
         ensures may { MayFollow self.now.levels.now (H.jobs self.now.held.now) result }
         ensures room { goes_down step.choice ≡ false → AdvisesRoom self.now.extents.now self.now.levels.now self.now.live (H.jobs self.now.held.now) result }

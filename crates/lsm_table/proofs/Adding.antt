@@ -12,7 +12,7 @@ use Rattle.lsm_table.specs.Counting.{with_entry}
 use Rattle.lsm_table.specs.BlockCounts.{block_count, IsPart, IsMerge, most_blocks, BlockLaws}
 use Rattle.lsm_table.proofs.Counts.{counting, layout, counted, counted_blocks, counted_laid, full_entry, fit_entry}
 
--- A layout has no more than another one with so many blocks besides, by blocks and then by the bytes used.
+-- A layout has no more than another one with `more` blocks added, by blocks and then by the bytes used.
 pub record IsWithin (more : ℕ) (s t : Layout) : Type 0 where
   pub blocks : s.blocks ≤ t.blocks + more
   pub used : t.blocks + more ≤ s.blocks → s.used ≤ t.used
@@ -47,7 +47,7 @@ skips more size s t within = elim (cases_lt 4096 (t.used + size)) [
   | inr room ↦ rw (fit_entry t.blocks t.used size room) (record { blocks = within.blocks; used = λ last. omega (arith, within.used last) })
 ]
 
--- the blocks that come of it at most
+-- the most blocks that an entry of this size adds
 abbrev most_of : ℕ → ℕ
 most_of size = cond (leb size 2047) 1 2
 
@@ -119,9 +119,9 @@ merge_with : (before after : List Version) (v : Version) → IsMerge (before ++ 
 merge_with [] after v = inr ([], refl, itself_merge after)
 merge_with (w ∷ before) after v = inl (before ++ after, refl, merge_with before after v)
 
--- ---- entries behind others
+-- ---- entries after others
 
--- entries that go on behind n blocks, the last of them empty
+-- entries that go on after n blocks, the last of them empty
 begun_anew : (n : ℕ) (entries : List Version) → (after (layout n 2) entries).blocks + 1 ≡ n + block_count entries
 unfolding blocks
 begun_anew n entries = counted_laid n [] entries

@@ -1,4 +1,4 @@
--- Entries laid down in order: the blocks that come of it are the only ones that the definition allows.
+-- Entries laid down in order: the resulting blocks are the only ones that the definition allows.
 use Rattle.std.proofs.Common.{◌≡◌, ◌+◌, ◌<◌, ◌≤◌, List, [], ◌∷◌, ◌++◌, length, refl, sym, ap, subst, ◌∙◌, append_assoc, arith, inl, inr}
 use Rattle.std.specs.List.{AllByRecursion}
 use Rattle.std.proofs.lemmas.Bool.{le-leb, lt-leb, cases_lt}
@@ -40,7 +40,7 @@ only_blocks entries [] some is = absurd (omega arith)
 only_blocks entries (b ∷ bs) some is =
     sym (ap (λ (es : List Version). laid [] es) (sym is.whole) ∙ laid_fits [] b (entries_of bs) is.fits.0 ∙ laid_over b bs is.nonempty.1 is.fits.1 is.full)
 
--- ---- the blocks that come of it are such blocks
+-- ---- the resulting blocks are such blocks
 
 joined_laid : (b : Block) (rest : List Version) → entries_of (laid b rest) ≡ b ++ rest
 unfolding laid

@@ -19,7 +19,7 @@ bytes entries = sum_by entry_size entries
 
 -- ---- where no entry is large
 
--- Each block before the last has so many bytes at least.
+-- Each block before the last has at least `least` bytes.
 pub record IsFilled (least total : ℕ) (s : Layout) : Type 0 where
   pub some : 1 ≤ s.blocks
   pub filled : (s.blocks - 1) * least + s.used ≤ total + 2
@@ -52,7 +52,7 @@ small_law entries most small =
 
 -- ---- whatever the sizes
 
--- So many pairs of blocks have the bytes of a block and more, and one block may be left, or two that are such a pair.
+-- `pairs` pairs of blocks have the bytes of a block and more, and one block is left, or two that are such a pair.
 pub record IsPaired (total : ℕ) (s : Layout) : Type 0 where
   pub pairs : ℕ
   pub rest : ((s.blocks ≡ 2 * pairs + 1) × (4095 * pairs + s.used ≤ total + 2)) ⊎ ((s.blocks ≡ 2 * pairs + 2) × (4095 * pairs + 4095 ≤ total))

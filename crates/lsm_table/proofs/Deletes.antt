@@ -21,7 +21,7 @@ pub few_deletes : (vs : List Version) → deletes_in vs ≤ length vs
 few_deletes [] = omega arith
 few_deletes (v ∷ vs) = omega (arith, few_deletes vs, at_most_one v.value, sum_by-append (λ (w : Version). one_if_none w.value) (v ∷ []) vs)
 
--- so it is of the first so many of them
+-- nor are there more in the first i
 pub few_taken : (vs : List Version) (i : ℕ) → deletes_in (take i vs) ≤ length vs
 few_taken vs i = omega (arith, sum_by-take-le (λ (w : Version). one_if_none w.value) vs i, few_deletes vs)
 
@@ -38,7 +38,7 @@ pub block_more : {X : Type 0} (items : X → Block) (blocks : List X) (i : ℕ) 
 block_more items blocks i b before lt is so_far =
     omega (arith, so_far, sum_by-append (λ (w : Version). one_if_none w.value) (entries_of (map items (take i blocks))) (items b), ap deletes_in (entries_more items blocks i b lt is))
 
--- no more deletes in the first so many blocks than entries in all
+-- no more deletes in the first i blocks than entries in all
 pub few_in_blocks : {X : Type 0} (items : X → Block) (blocks : List X) (i : ℕ) → deletes_in (entries_of (map items (take i blocks))) ≤ length (entries_of (map items blocks))
 few_in_blocks items blocks i =
     let first : List Version = entries_of (map items (take i blocks)) in

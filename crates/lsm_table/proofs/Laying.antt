@@ -50,7 +50,7 @@ pub all_filled : (entries : List Version) → blocks_in (filled entries) ≡ blo
 unfolding blocks
 all_filled entries = filled_laid [] [] 1 2 entries refl
 
--- Of the entries so many are in these blocks, and these are left.
+-- The first `place` entries are in these blocks, and the others are left.
 pub record IsFilling (done : Filled) (place : ℕ) (left entries : List Version) : Type 0 where
   pub is : done ≡ filled (take place entries)
   pub rest : left ≡ drop place entries

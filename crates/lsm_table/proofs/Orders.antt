@@ -1,4 +1,4 @@
--- Where the key changes, what stands before shares no key with what stands after.
+-- Where the key changes, what is before shares no key with what is after.
 use Rattle.std.proofs.Common.{◌≡◌, ◌≢◌, ℕ, ◌+◌, ◌<◌, false, List, [], ◌∷◌, ◌++◌, length, take, drop, get_or, refl, sym, ap, subst, ◌∙◌, arith}
 use Rattle.std.specs.List.{AllByRecursion}
 use Rattle.std.specs.declared.cmp.Ordering.{Ordering}
@@ -62,7 +62,7 @@ lacks_after : (v u : Bytes) (w : Version) (others : List Version) → IsNotAfter
 lacks_after v u w [] vu uw ne befores = tt
 lacks_after v u w (x ∷ others) vu uw ne befores = (far_apart v u w.key x.key vu uw ne (keys_rise w x befores.0), lacks_after v u w others vu uw ne befores.1)
 
--- of a list in order, the first stands before the next, and before each later one
+-- of a list in order, the first comes before the next, and before each later one
 pub next_before : (v w : Version) (rest : List Version) → Pairwise Before (v ∷ w ∷ rest) → Before v w
 next_before v w rest ordered = ordered.0 0 v (omega arith)
 

@@ -1,4 +1,4 @@
--- Footer, index and filter tell an outline exactly where it is one and they spell it.
+-- Footer, index and filter give an outline exactly where it is one and they encode it.
 use Rattle.std.proofs.Common.{◌≡◌, ℕ, suc, ◌^◌, ◌<◌, ◌≤◌, Bool, true, false, cond, ◌&&◌, ◌==◌, List, [], ◌∷◌, length, Option, Some, None, refl, sym, ap, subst, ◌∙◌, arith}
 use Rattle.std.specs.List.{AllByRecursion}
 use Rattle.std.proofs.lemmas.Bool.{and_parts, and_from, eqb-true, eq-eqb}
@@ -36,7 +36,7 @@ passed_test false x z e = absurd (none-some z e)
 same_summary : (f : Summary) (n m : ℕ) → n ≡ f.data_blocks → m ≡ f.index_len → record { number = f.number; data_blocks = n; entries = f.entries; index_len = m; first = f.first } ≡ f
 same_summary f n m a b = rw (a, b) refl
 
--- footer and index that go together tell an outline
+-- footer and index that go together give an outline
 outlined : (s : TableRecord) (f : Summary) (edges : List Edge) (filter : List ℕ) → IsSummary f → IsIndex f.data_blocks edges → go_together s f edges ≡ true → IsOutline (made f edges filter)
 outlined s f edges filter summary index together =
     let t = and_parts (index_count edges == s.index_blocks) ((index_length edges == f.index_len) && (follow_first f.first edges && are_rising edges)) together in

@@ -1,4 +1,4 @@
--- The version asked for is in the block of its place, or in none.
+-- The version asked for is in the block of its place, or in no block.
 use Rattle.std.proofs.Common.{◌≡◌, ℕ, suc, ◌+◌, ◌-◌, ◌<◌, ◌≤◌, Bool, true, false, cond, ◌&&◌, ◌||◌, eqb, leb, ltb, List, [], ◌∷◌, ◌++◌, length, get_or, Option, Some, None, refl, sym, ap, subst, ◌∙◌, arith, inl, inr}
 use Rattle.std.specs.List.{AllByRecursion}
 use Rattle.std.specs.declared.cmp.Ordering.{Ordering}
@@ -26,7 +26,7 @@ later_number m n less = by_ranked (n < m) (n ≡ m) (m < n) (nat_cmp n m) (ranke
     (λ e same. absurd (let clash : Equal ≡ Less = sym e ∙ less in cc))
     (λ e gt. absurd (let clash : Greater ≡ Less = sym e ∙ less in cc))
 
--- of one key, the newer stands before
+-- of one key, the newer comes before
 newer_number : (key : Bytes) (m n : ℕ) → ordering_then (byte_order key key) (nat_cmp n m) ≡ Less → n < m
 newer_number key m n less = later_number m n (ap (λ (o : Ordering). ordering_then o (nat_cmp n m)) (sym (tied_itself nat_list_cmp_total key)) ∙ less)
 
@@ -52,7 +52,7 @@ both_true a b p q = rw (p, q) refl
 abbrev asked : Bytes → ℕ → Version
 asked key at = record { key = key; number = at; value = None }
 
--- v stands before the place of the key's version of the number
+-- v comes before the key's version of the number
 abbrev StandsBefore : Bytes → ℕ → Version → Type 0
 StandsBefore key at v = Before v (asked key at)
 
@@ -160,7 +160,7 @@ shifted n b table (Some k) low =
 number_before : (m n : ℕ) → m < n → nat_cmp m n ≡ Less
 number_before m n lt = by_ranked (m < n) (m ≡ n) (n < m) (nat_cmp m n) (ranked m n (nat_cmp m n) refl) (λ e h. e) (λ e h. absurd (omega arith)) (λ e h. absurd (omega arith))
 
--- a block whose edge doesn't stand before the place
+-- a block whose edge doesn't come before the place
 decided : (key : Bytes) (at : ℕ) (v : Version) (block more : List Version) → Pairwise Before ((v ∷ block) ++ more) → stands_before key at (last_edge v block) ≡ false → newest key at ((v ∷ block) ++ more) ≡ newest key at (v ∷ block)
 decided key at v block more ordered after =
     let edge : Edge = last_edge v block in

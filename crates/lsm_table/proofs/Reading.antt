@@ -74,7 +74,7 @@ one_at_most : (b : Bool) → drop {A = Result Version Refusal} 1 (cond b [] (Err
 one_at_most true = refl
 one_at_most false = refl
 
--- nothing is left behind where no entry comes first
+-- nothing is left after the first item where that is no entry
 pub none_behind : (left : ℕ) (bytes : List ℕ) → None ≡ first_version (entries_from left bytes) → drop 1 (entries_from left bytes) ≡ []
 unfolding entries_from
 none_behind zero bytes none = one_at_most (are_zeros bytes)
@@ -93,7 +93,7 @@ rest_of (x ∷ front) rest =
     let same : length (x ∷ front ++ rest) - length rest ≡ suc (length (front ++ rest) - length rest) = omega (arith, length-append front rest) in
     ap (λ (n : ℕ). drop n (x ∷ front ++ rest)) same ∙ rest_of front rest
 
--- where the bytes behind a text begin
+-- where the bytes after a text begin
 begins_at : (bytes : List ℕ) (offset : ℕ) (text rest : List ℕ) → drop offset bytes ≡ text ++ rest → drop (length bytes - length rest) bytes ≡ rest
 begins_at bytes offset text rest e =
     let whole : (take offset bytes ++ text) ++ rest ≡ bytes = append_assoc (take offset bytes) text rest ∙ ap (λ (t : List ℕ). take offset bytes ++ t) (sym e) ∙ take-append-drop offset bytes in
@@ -102,7 +102,7 @@ begins_at bytes offset text rest e =
 pub fit_behind : (bytes : List ℕ) (offset : ℕ) → IsBytes bytes → IsBytes (drop offset bytes)
 fit_behind bytes offset fits = after bytes (take offset bytes) (drop offset bytes) fits (sym (take-append-drop offset bytes))
 
--- what is left behind an entry
+-- what is left after an entry
 pub left_behind : (left : ℕ) (bytes : List ℕ) (offset at : ℕ) (v : Version) (rest : List ℕ) → IsBytes bytes → length bytes ≡ 4096 → at ≡ 4096 - length rest → (left ≡ 0 → ⊥) → Some (v, rest) ≡ entry_at (drop offset bytes)
     → entries_from (left - 1) (drop at bytes) ≡ drop 1 (entries_from left (drop offset bytes))
 left_behind left bytes offset at v rest fits size is some read =
@@ -111,7 +111,7 @@ left_behind left bytes offset at v rest fits size is some read =
     ap (entries_from (left - 1)) (ap (λ (n : ℕ). drop n bytes) same ∙ begins_at bytes offset (entry_text v) rest found.1)
     ∙ sym (ap (drop 1) (step left (drop offset bytes) (Some (v, rest)) some (sym read)))
 
--- the bytes behind an entry are some of the block's
+-- the bytes after an entry are some of the block's
 pub within_block : (bytes : List ℕ) (offset : ℕ) (v : Version) (rest : List ℕ) → IsBytes bytes → length bytes ≡ 4096 → Some (v, rest) ≡ entry_at (drop offset bytes) → length rest ≤ 4096
 within_block bytes offset v rest fits size read =
     let found = entry_reads.found (drop offset bytes) (v, rest) (fit_behind bytes offset fits) (sym read) in

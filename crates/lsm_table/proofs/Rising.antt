@@ -43,7 +43,7 @@ all_rise edges i low le so_far = sym (short (drop (i - 1) edges) (omega (arith, 
 
 -- ---- the edges of a table
 
--- the last entry of a block stands before what the block stands before
+-- the last entry of a block comes before what the block comes before
 last_before : (v : Version) (block : Block) (w : Version) (more : List Version) → Pairwise Before ((v ∷ block) ++ w ∷ more) → (is_edge_before (last_edge v block) (record { key = w.key; number = w.number }) ≡ true)
 last_before v [] w more ordered = ap is_lt (next_before v w more ordered)
 last_before v (x ∷ block) w more ordered = last_before x block w more ordered.1

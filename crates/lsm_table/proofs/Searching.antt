@@ -23,7 +23,7 @@ asked key at = record { key = key; number = at; value = None }
 stands_along : (key : Bytes) (at : ℕ) (d e : Edge) → is_edge_before d e ≡ true → stands_before key at e ≡ true → stands_before key at d ≡ true
 stands_along key at d e one two = ap is_lt (before_along (at_edge d) (at_edge e) (asked key at) (is_lt_Less _ one) (is_lt_Less _ two))
 
--- no edge that stands before a place comes after one that doesn't
+-- no edge before a place comes after one that isn't
 pub parted : (key : Bytes) (at : ℕ) (edges : List Edge) → are_rising edges ≡ true → IsPartitionedBy (stands_before key at) edges
 parted key at [] rising i j d le lt h = absurd (omega arith)
 parted key at (e ∷ []) rising i (suc j) d le lt h = absurd (omega arith)

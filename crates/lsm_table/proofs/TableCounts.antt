@@ -27,7 +27,7 @@ group_within (v ∷ rest) group few =
     let c : count_by (with_key v.key) (v ∷ rest) ≡ 1 + count_by (with_key v.key) rest = count-cons (with_key v.key) v rest ∙ ap (λ (b : _). cond b 1 0 + count_by (with_key v.key) rest) (key_itself v.key) in
     omega (arith, few v.key, c, prefix_counts (with_key v.key) rest, group_length v rest)
 
--- So many tables are full by their blocks, and so many by their entries; all but one are.
+-- `by_blocks` tables are full by their blocks, and `by_entries` by their entries; all but one are.
 pub record AreFull (group blocks entries tables : ℕ) : Type 0 where
   pub by_blocks : ℕ
   pub by_entries : ℕ

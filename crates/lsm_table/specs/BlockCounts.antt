@@ -32,7 +32,7 @@ abbrev pub IsMerge : List Version → List Version → List Version → Type 0
 IsMerge base added [] = (base ≡ []) × (added ≡ [])
 IsMerge base added (v ∷ all) = ((rest : List Version) × (base ≡ v ∷ rest) × IsMerge rest added all) ⊎ ((rest : List Version) × (added ≡ v ∷ rest) × IsMerge base rest all)
 
--- the most blocks that come of an entry more
+-- the most blocks that one more entry adds
 abbrev pub most_blocks : Version → ℕ
 most_blocks v = cond (leb (entry_size v) 2047) 1 2
 
@@ -41,8 +41,8 @@ pub record AreInBlocks (tables : List TableBlocks) : Type 0 where
   pub nonempty : AllByRecursion (λ table. 0 < length table) tables
   pub in_blocks : AllByRecursion (λ table. IsBlocks (entries_of table) table) tables
 
--- What entries of other entries take: some of them no more blocks; merged ones no more than those of the one list and the
--- most that come of each entry of the other; an entry more at a place likewise; joined ones as many as both, or one less.
+-- How many blocks entries take: some of them no more than all; merged lists no more than those of the one list and the
+-- most that each entry of the other adds; likewise one more entry at a place; joined lists as many as both, or one less.
 pub record BlockLaws : Type 0 where
   pub part : (some all : List Version) → IsPart some all → block_count some ≤ block_count all
   pub merged : (base added all : List Version) → IsMerge base added all → block_count all ≤ block_count base + sum_by most_blocks added
@@ -57,14 +57,14 @@ pub record DataBlockLaws : Type 0 where
   pub least : (tables : List TableBlocks) → AreInBlocks tables → 0 < length tables → block_count (flat_map entries_of tables) ≤ data_blocks tables
   pub most : (tables : List TableBlocks) → AreInBlocks tables → data_blocks tables + 1 ≤ block_count (flat_map entries_of tables) + length tables
 
--- What entries take by their bytes: where none is larger than so many, each block but the last has at most as many bytes
--- free; whatever their sizes, any two neighbours have more bytes than one holds; and no block has more than it holds.
+-- Blocks by the bytes of entries: where none has more than `most` bytes, each block but the last has fewer than `most` bytes
+-- free; whatever their sizes, any two neighbours have more bytes than one block holds; and no block has more than it holds.
 pub record ByteLaws : Type 0 where
   pub small : (entries : List Version) (most : ℕ) → AllByRecursion (λ v. entry_size v ≤ most) entries → (block_count entries - 1) * (4095 - most) ≤ sum_by entry_size entries
   pub any : (entries : List Version) → block_count entries ≤ 2 * (sum_by entry_size entries / 4095) + 1
   pub held : (tables : List TableBlocks) → AreInBlocks tables → sum_by entry_size (flat_map entries_of tables) ≤ 4094 * data_blocks tables
 
--- How many tables entries are divided into that have so many of a key at most, and what their extents take: data blocks,
+-- How many tables entries are divided into with at most `group` of a key, and how many blocks their extents take: data blocks,
 -- filter, index and footer.
 pub record TableCountLaws : Type 0 where
   pub few : (entries : List Version) (tables : List TableBlocks) (group : ℕ) → IsTables entries tables → group ≤ 33 → ((key : Bytes) → count_by (λ v. is_same_key key v.key) entries ≤ group)

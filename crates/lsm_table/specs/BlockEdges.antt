@@ -37,17 +37,17 @@ last_key [] = []
 last_key (e ∷ []) = e.key
 last_key (e ∷ f ∷ edges) = last_key (f ∷ edges)
 
--- one edge stands before the next
+-- one edge comes before the next
 abbrev pub is_edge_before : Edge → Edge → Bool
 is_edge_before a b = is_lt (ordering_then (byte_order a.key b.key) (nat_cmp b.number a.number))
 
--- each edge stands before the next
+-- each edge comes before the next
 abbrev pub are_rising : List Edge → Bool
 are_rising [] = true
 are_rising (e ∷ []) = true
 are_rising (e ∷ f ∷ edges) = is_edge_before e f && are_rising (f ∷ edges)
 
--- no edge stands before the first key
+-- no edge is before the first key
 abbrev pub follow_first : Bytes → List Edge → Bool
 follow_first first [] = true
 follow_first first (e ∷ edges) = not (is_gt (byte_order first e.key))

@@ -16,7 +16,7 @@ pub record EndsTable (entries : List Version) (n : ℕ) : Type 0 where
   pub whole_keys : ShareNoKey (take n entries) (drop n entries)
   pub greedy : 0 < length (drop n entries) → IsTooMuch (take n entries ++ first_group (drop n entries))
 
--- the tables of the entries have so many of them, one after the other
+-- the tables of the entries have these numbers of entries, one after the other
 abbrev pub EndTables : List Version → List ℕ → Type 0
 EndTables entries [] = entries ≡ []
 EndTables entries (n ∷ lens) = EndsTable entries n × EndTables (drop n entries) lens

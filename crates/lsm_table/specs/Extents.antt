@@ -10,7 +10,7 @@ use Rattle.lsm_table.specs.Division.{TableBlocks, IsTable, entries_of}
 use Rattle.lsm_table.specs.BlockEdges.{edges_of}
 use Rattle.lsm_table.specs.Outlines.{outline_in, summary_in}
 
--- what an image keeps beside its blocks
+-- what an image keeps besides its blocks
 pub record IsImageOf (table : TableBlocks) (entries deletes : ℕ) (filter index : List ℕ) (index_len : ℕ) : Type 0 where
   pub is : IsTable table
   pub all : entries ≡ length (entries_of table)
@@ -19,7 +19,7 @@ pub record IsImageOf (table : TableBlocks) (entries deletes : ℕ) (filter index
   pub edges : index ≡ index_blocks (edges_of table)
   pub len : index_len ≡ index_length (edges_of table)
 
--- so many blocks of bytes
+-- the first n blocks of bytes
 abbrev pub in_pieces : ℕ → List ℕ → List (List ℕ)
 in_pieces zero bytes = []
 in_pieces (suc n) bytes = take 4096 bytes ∷ in_pieces n (drop 4096 bytes)

@@ -6,7 +6,7 @@ use Rattle.lsm_codec.specs.Versions.{Version}
 use Rattle.lsm_codec.specs.Entries.{entries_from}
 use Rattle.lsm_codec.specs.References.{shown}
 
--- an entry or a refusal, without where the entry lies
+-- an entry or a refusal, without the place of the entry
 abbrev pub shown_item : Result VersionRef Refusal → Result Version Refusal
 shown_item (Ok e) = Ok (shown e)
 shown_item (Err e) = Err e

@@ -19,8 +19,8 @@ pub record OneLayout : Type 0 where
   pub only : (entries : List Version) (table : TableBlocks) → 0 < length table → IsBlocks entries table → table ≡ blocks entries
   pub are : (entries : List Version) → 0 < length entries → AllByRecursion IsEntry entries → IsBlocks entries (blocks entries)
 
--- Record, footer, index and filter tell an outline exactly where it is one and they spell it; a table's outline is one,
--- and is what its own tell; and a table is sorted.
+-- Record, footer, index and filter give an outline exactly where it is one and they encode it; a table's outline is one,
+-- and is what its own record, footer, index and filter give; and a table is sorted.
 pub record OutlineLaws : Type 0 where
   pub exact : (t : TableRecord) (footer index filter : List ℕ) (o : Outline) → (outline_of t footer index filter ≡ Some o) ↔ (IsOutline o × IsSpelled t footer index filter o)
   pub table : (number : ℕ) (filter : List ℕ) (table : TableBlocks) → number ≤ 2 ^ 63 → IsTable table → IsOutline (outline_in number filter table)

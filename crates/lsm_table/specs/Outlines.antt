@@ -1,4 +1,4 @@
--- What footer, index and filter tell of a table.
+-- The outline of a table, which footer, index and filter encode.
 use Rattle.std.specs.Prelude.{◌≡◌, ℕ, ◌==◌, ◌&&◌, Bool, true, List, length, Option, Some, None, Result, MatchResult, ◌⊎◌, if◌then◌else◌}
 use Rattle.lsm_device.specs.declared.refusal.Refusal.{Refusal}
 use Rattle.lsm_device.specs.declared.refusal.Refusal.TheVariants.{BadTable, NoMemory}
@@ -18,7 +18,7 @@ pub record Outline : Type 0 where
   pub edges : List Edge
   pub filter : List ℕ
 
--- what its footer says
+-- the contents of its footer
 abbrev pub summary_in : Outline → Summary
 summary_in o = record { number = o.number; data_blocks = length o.edges; entries = o.entries; index_len = index_length o.edges; first = o.first }
 
@@ -41,15 +41,15 @@ is_of_record t f = (f.number == t.number) && ((f.data_blocks == t.data_blocks) &
 abbrev pub go_together : TableRecord → Summary → List Edge → Bool
 go_together t f edges = (index_count edges == t.index_blocks) && ((index_length edges == f.index_len) && (follow_first f.first edges && are_rising edges))
 
--- what footer and index tell
+-- the outline that footer and index give
 abbrev pub outline_with : TableRecord → Summary → List ℕ → List Edge → Option Outline
 outline_with t f filter edges = if go_together t f edges then Some (record { number = f.number; entries = f.entries; first = f.first; edges = edges; filter = filter }) else None
 
--- what a footer, and the bytes of index and filter tell
+-- the outline that a footer, and the bytes of index and filter give
 abbrev pub outline_by : TableRecord → Summary → List ℕ → List ℕ → Option Outline
 outline_by t f index filter = if is_of_record t f then index_of f.data_blocks index >>= (λ edges. outline_with t f filter edges) else None
 
--- what footer, index and filter of the table with this record tell, if they are those of such a table
+-- the outline that footer, index and filter of the table with this record give, if they are those of such a table
 unfoldable pub outline_of : TableRecord → List ℕ → List ℕ → List ℕ → Option Outline
 outline_of t footer index filter = footer_of footer >>= λ f. outline_by t f index filter
 
@@ -60,13 +60,13 @@ pub record IsOutline (o : Outline) : Type 0 where
   pub begins : follow_first o.first o.edges ≡ true
   pub rising : are_rising o.edges ≡ true
 
--- the record is that of the outline, and footer, index and filter spell it
+-- the record is that of the outline, and footer, index and filter encode it
 pub record IsSpelled (t : TableRecord) (footer index filter : List ℕ) (o : Outline) : Type 0 where
   pub by_record : IsRecordOf t o
   pub by_footer : footer ≡ footer_block (summary_in o)
   pub by_index : index ≡ index_blocks o.edges
   pub by_filter : filter ≡ o.filter
 
--- a table is opened where footer, index and filter tell one, unless memory runs out
+-- a table is opened where footer, index and filter give an outline, unless memory runs out
 abbrev pub Opens : Option Outline → Result Outline Refusal → Type 0
 Opens told result = MatchResult result (λ o. told ≡ Some o) (λ e. (e ≡ NoMemory) ⊎ ((e ≡ BadTable) × (told ≡ None)))

@@ -7,17 +7,17 @@ use Rattle.lsm_codec.specs.Versions.{Version, IsEntry, AreOrdered}
 use Rattle.lsm_codec.specs.Indexes.{Edge}
 use Rattle.lsm_table.specs.Division.{TableBlocks, entries_of}
 
--- whether an edge stands before the place of a key's version of this number
+-- whether an edge comes before a key's version numbered `at`
 abbrev pub stands_before : Bytes → ℕ → Edge → Bool
 stands_before key at e = is_lt (ordering_then (byte_order e.key key) (nat_cmp at e.number))
 
--- the first of these blocks, numbered from n on, whose edge doesn't stand before it
+-- the first of these blocks, numbered from n on, whose edge doesn't come before it
 unfoldable pub place_from : ℕ → Bytes → ℕ → List Edge → Option ℕ
 place_from n key at [] = None
 place_from n key at (e ∷ edges) = cond (stands_before key at e) (place_from (n + 1) key at edges) (Some n)
 
 -- in a table with this first key and these edges, the one block that can hold the newest version of a key that is
--- numbered at most `at`; none has the number 0
+-- numbered at most `at`; no version has the number 0
 abbrev pub place_of : Bytes → List Edge → Bytes → ℕ → Option ℕ
 place_of first edges key at = cond (at == 0 || is_gt (byte_order first key)) None (place_from 0 key at edges)
 

@@ -8,7 +8,7 @@ use Rattle.lsm_table.specs.Division.{TableBlocks, IsTable}
 use Rattle.lsm_table.specs.Outlines.{Outline, IsRecordOf, outline_in, outline_of}
 use Rattle.lsm_table.specs.Extents.{extent_in_blocks}
 
--- the table that data blocks spell, if each of them spells entries
+-- the table that data blocks encode, if each of them encodes entries
 abbrev pub table_of : List (List ℕ) → Option TableBlocks
 table_of [] = Some []
 table_of (b ∷ blocks) = do
@@ -16,17 +16,17 @@ table_of (b ∷ blocks) = do
   table ← table_of blocks
   Some (entries ∷ table)
 
--- the table that an extent's first blocks spell, so many of them
+-- the table that the first `count` blocks of an extent encode
 abbrev pub table_in : ℕ → List (List ℕ) → Option TableBlocks
 table_in count blocks = table_of (take count blocks)
 
--- the outline that the blocks after the data blocks tell of the table with this record: the filter, the index, and the
+-- the outline that the blocks after the data blocks give of the table with this record: the filter, the index, and the
 -- footer
 abbrev pub outline_at : TableRecord → List (List ℕ) → Option Outline
 outline_at t blocks =
     outline_of t (slice_index_or blocks (t.data_blocks + t.index_blocks + 1) []) (flat_map (λ b. b) (take t.index_blocks (drop (t.data_blocks + 1) blocks))) (slice_index_or blocks t.data_blocks [])
 
--- Data blocks spell just one table, and an extent is read as the table that was laid into it.
+-- Data blocks encode just one table, and an extent is read as the table that was laid into it.
 pub record StoredLaws : Type 0 where
   pub read : (table : TableBlocks) → AllByRecursion IsDataBlock table → table_of (map data_block table) ≡ Some table
   pub spelled : (blocks : List (List ℕ)) (table : TableBlocks) → table_of blocks ≡ Some table → AllByRecursion IsDataBlock table × (blocks ≡ map data_block table)

@@ -13,7 +13,7 @@ use lsm_codec::Entry;
 use std::alloc::{AllocError, Allocator};
 use std::vec::IntoIter;
 
-/// The first so many of the entries that are left, in blocks.
+/// The first `len` of the entries that are left, in blocks.
 fn next_blocks<A: Allocator>(
     alloc: &A,
     left: &mut IntoIter<Entry<A>, A>,
@@ -35,7 +35,7 @@ where
     Ok(filling.finish()?)
 }
 
-/// The table of the first so many of the entries that are left.
+/// The table of the first `len` of the entries that are left.
 fn next_image<A: Allocator>(
     alloc: A,
     left: &mut IntoIter<Entry<A>, A>,
@@ -51,7 +51,7 @@ where
     Ok(Image::new(alloc, blocks, len as u32)?)
 }
 
-/// The tables of the entries that are left, which have so many of them each.
+/// The tables of the entries that are left; `lens` says how many each of them has.
 fn next_images<A: Allocator>(
     alloc: &A,
     left: &mut IntoIter<Entry<A>, A>,
@@ -70,7 +70,7 @@ where
     Ok(images)
 }
 
-/// The tables of the entries, which stand by key, and of a key the newer first, at most 33 of them. Contracts see the
+/// The tables of the entries, which are sorted by key, and of a key the newer first, at most 33 of them. Contracts see the
 /// division: joined, the tables are the entries; the blocks of each are filled in order; no key is in two tables; and a
 /// table ends where with all entries of the next key it would pass 64 data blocks or 3,200 entries. Each entry is moved
 /// once into its block.

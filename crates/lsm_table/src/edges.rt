@@ -40,7 +40,7 @@ pub(crate) fn edges_of<A: Allocator + Clone>(
     Ok(index)
 }
 
-/// The last key, none where there is no edge.
+/// The last key, empty where there is no edge.
 pub(crate) fn last_key<A: Allocator>(edges: &[Edge<A>]) -> &[u8]
     ensures { result.now ≡ last_key edges.now }
 {
@@ -50,7 +50,7 @@ pub(crate) fn last_key<A: Allocator>(edges: &[Edge<A>]) -> &[u8]
     edges[edges.len() - 1].key()
 }
 
-/// Whether the edge stands before the place of the key's version of this number.
+/// Whether the edge comes before the key's version numbered `at`.
 fn stands_before<A: Allocator>(edge: &Edge<A>, key: &[u8], at: u64) -> bool
     ensures { result ≡ stands_before key.now at edge.now }
 {
@@ -61,7 +61,7 @@ fn stands_before<A: Allocator>(edge: &Edge<A>, key: &[u8], at: u64) -> bool
     }
 }
 
-/// The first block whose edge doesn't stand before the place.
+/// The first block whose edge doesn't come before the key's version numbered `at`.
 pub(crate) fn place_in<A: Allocator>(edges: &[Edge<A>], key: &[u8], at: u64) -> Option<usize>
     requires { are_rising edges.now ≡ true }
     ensures place { result ≡ place_from 0 key.now at edges.now }
@@ -89,7 +89,7 @@ fn is_edge_before<A: Allocator>(edge: &Edge<A>, next: &Edge<A>) -> bool
     stands_before(edge, next.key(), next.number())
 }
 
-/// Whether each edge stands before the next.
+/// Whether each edge comes before the next.
 pub(crate) fn are_rising<A: Allocator>(edges: &[Edge<A>]) -> bool
     ensures { result ≡ are_rising edges.now }
 {

@@ -58,7 +58,7 @@ impl<'a> Entries<'a> {
         }
     }
 
-    /// So many entries, which begin with these bytes.
+    /// `left` entries, which begin with these bytes.
     pub(crate) fn of(left: usize, rest: &'a [u8]) -> Entries<'a>
         ensures { result ≡ entries_from left rest.now }
     {

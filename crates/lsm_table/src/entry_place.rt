@@ -14,7 +14,7 @@ use std::marker::Model;
 
 const BLOCK: usize = 4_096;
 
-/// A place among the entries of a data block, which can be kept beside the bytes of the block: how many entries are left, and at
+/// A place among the entries of a data block, which can be kept next to the bytes of the block: how many entries are left, and at
 /// which byte they begin.
 #[derive(Clone, Copy)]
 pub struct EntryPlace {
@@ -61,7 +61,7 @@ impl EntryPlace {
         }
     }
 
-    /// The place behind all entries of a block.
+    /// The place after all entries of a block.
     pub fn end(block: &[u8; 4_096]) -> EntryPlace
         ensures { items_at result block.now ≡ [] }
     {
@@ -86,7 +86,7 @@ impl EntryPlace {
         Entries::of(self.left, self.bytes_from(block))
     }
 
-    /// Where the first entry from the place on lies, and the place behind it; none where no entry comes first.
+    /// Where the first entry from the place on is, and the place after it; `None` where none is left or its bytes are invalid.
     pub fn first_entry(&self, block: &[u8; 4_096]) -> Option<(EntrySpan, EntryPlace)>
         ensures lies { option_map (λ e. spanned e.0 block.now) result ≡ first_version (items_at self.now block.now) }
         ensures behind { IfSome result (λ e. items_at e.1 block.now ≡ drop 1 (items_at self.now block.now)) }
@@ -107,7 +107,7 @@ impl EntryPlace {
         }
     }
 
-    /// The place behind the first entry from the place on.
+    /// The place after the first entry from the place on.
     pub fn next(&self, block: &[u8; 4_096]) -> EntryPlace
         ensures { items_at result block.now ≡ drop 1 (items_at self.now block.now) }
     {

@@ -1,4 +1,4 @@
-//! Where entries lie in a data block.
+//! Where entries are in a data block.
 
 ghost use Rattle.std.specs.Prelude.{◌≡◌, ◌+◌, ◌≤◌, take, drop};
 ghost use Rattle.lsm_codec.specs.Entries.{entry_size};
@@ -8,8 +8,8 @@ ghost use Rattle.lsm_table.specs.Spans.{span_at, spanned};
 use lsm_codec::VersionRef;
 use std::marker::Model;
 
-/// Where an entry lies in a data block. It can be kept beside the bytes of the block, so that they are read once: then the entry
-/// is lent out of them with no look at what stands between.
+/// Where an entry is in a data block. It can be kept next to the bytes of the block, so that they are parsed once: then the entry
+/// is lent out of them without parsing it again.
 #[derive(Clone, Copy)]
 pub struct EntrySpan {
     key_offset: usize,
@@ -31,7 +31,7 @@ impl Model for EntrySpan {
     ghost invariant = { λ s. IsWithinBlock (record { key_offset = s.key_offset; key_len = s.key_len; number = s.number; value_offset = s.value_offset; value_len = s.value_len }) };
 }
 
-/// So many bytes of a block.
+/// `len` bytes of a block, from `offset` on.
 fn part_of(block: &[u8; 4_096], offset: usize, len: usize) -> &[u8]
     requires { offset + len ≤ 4096 }
     ensures { result.now ≡ take len (drop offset block.now) }
@@ -58,7 +58,7 @@ impl EntrySpan {
         }
     }
 
-    /// The entry that lies there, lent out of the bytes of its block.
+    /// The entry at this place, lent out of the bytes of its block.
     pub fn entry<'b>(&self, block: &'b [u8; 4_096]) -> VersionRef<'b>
         ensures { shown result ≡ spanned self.now block.now }
     {

@@ -49,7 +49,7 @@ impl<A: Allocator + Clone> Filling<A> {
         })
     }
 
-    /// Moves an entry behind the others: into the block that is begun, or where it has no room into the next.
+    /// Moves an entry to the end: into the block that is begun, or where it doesn't fit there into the next.
     pub(crate) fn add(&mut self, alloc: &A, entry: Entry<A>) -> Result<(), AllocError>
         requires blocks { self.old.layout.blocks < 2 ^ 32 }
         requires used { self.old.layout.used ≤ 4096 }

@@ -89,7 +89,7 @@ fn index_of<A: Allocator + Clone>(
     Ok((index, edges.text_len()))
 }
 
-/// One of the blocks that the bytes are.
+/// Block `at` of these bytes.
 fn block_at(bytes: &[u8], at: usize) -> [u8; 4_096]
     requires low { at < 64 }
     requires inside { 4096 * at + 4096 ≤ length bytes.now }
@@ -113,7 +113,7 @@ fn first_key<A: Allocator>(blocks: &[Vec<Entry<A>, A>]) -> &[u8]
     entry.key()
 }
 
-/// The size of an entry where it is above a number, or else the number.
+/// The greater of `so_far` and the size of an entry.
 fn larger<A: Allocator>(so_far: usize, entry: &Entry<A>) -> usize
     ensures { result ≡ larger so_far entry.now }
 {
@@ -121,7 +121,7 @@ fn larger<A: Allocator>(so_far: usize, entry: &Entry<A>) -> usize
     if so_far < size { size } else { so_far }
 }
 
-/// The greatest of a number and the sizes of entries.
+/// The greatest of `so_far` and the sizes of entries.
 fn largest_from<A: Allocator>(so_far: usize, entries: &[Entry<A>]) -> usize
     ensures { result ≡ largest_from so_far entries.now }
 {
@@ -240,7 +240,7 @@ impl<A: Allocator> Image<A> {
         encode_data_block(&self.blocks[at])
     }
 
-    /// The filter of the table's keys, which says `perhaps` of each of them.
+    /// The filter of the table's keys, whose `perhaps` is true for each of them.
     pub fn filter(&self) -> &Filter<A>
         ensures built { result.now ≡ filter_of (keys_of self.now) }
         ensures members { All (λ v. is_perhaps result.now v.key ≡ true) (entries_of self.now) }

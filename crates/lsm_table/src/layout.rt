@@ -21,7 +21,7 @@ impl Layout {
         Layout { blocks: 1, used: 2 }
     }
 
-    /// Lays down an entry of this size after the others, and tells whether it begins a block, as it does where the last one
+    /// Lays down an entry of this size after the others, and returns whether it begins a block, as it does where the last one
     /// has no room for it.
     pub(crate) fn add(&mut self, size: usize) -> bool
         requires blocks { self.old.blocks < 2 ^ 32 }

@@ -19,7 +19,7 @@ pub(crate) fn is_of_record(table: TableRecord, footer: &Footer<'_>) -> bool
             && footer.entries == table.entries as u32)
 }
 
-/// Whether no edge stands before the first key.
+/// Whether no edge is before the first key.
 fn follow_first<A: Allocator>(first: &[u8], edges: &[Edge<A>]) -> bool
     ensures { result ≡ follow_first first.now edges.now }
 {

@@ -1,4 +1,4 @@
-//! Tables that stand, as footer, index and filter tell of them.
+//! Written tables, as their footer, index and filter describe them.
 
 ghost use Rattle.std.specs.Prelude.{◌≡◌, ◌<◌, ◌≤◌, length, IfSome};
 ghost use Rattle.lsm_codec.specs.Versions.{newest};
@@ -18,7 +18,7 @@ use lsm_filter::{Filter, KeyHash};
 use std::alloc::{Allocator, Global};
 use std::marker::Model;
 
-/// A table that stands. Contracts see what its footer, index and filter tell.
+/// A written table. Contracts see what its footer, index and filter contain.
 #[derive(Drop)]
 pub struct Table<A: Allocator = Global> {
     number: u64,
@@ -40,10 +40,10 @@ impl<A: Allocator> Model for Table<A> {
 
 impl<A: Allocator + Clone> Table<A> {
     /// Opens the table of a manifest's record, with this footer block, these index blocks and this filter block. `BadTable`
-    /// where they are not those of such a table: the footer is outside its limits, or says another number, count of data
+    /// where they are not those of such a table: the footer is outside its limits, or has another number, count of data
     /// blocks or of entries than the record; the index isn't that of the footer's data blocks, of the footer's length
     /// and in the record's count of blocks, which are the fewest that hold it; or first key and edges are out of order.
-    /// Want of memory is `NoMemory`.
+    /// `NoMemory` where memory runs out.
     #[tactic(auto, unfolding(crate::specs::Outlines::outline_of))]
     pub fn open(
         alloc: A,
@@ -153,7 +153,7 @@ impl<A: Allocator> Table<A> {
         self.index.edges()
     }
 
-    /// Whether the table may have a version of the key: where the filter is that of the table's keys, and the answer is
+    /// Whether the table may have a version of the key: where the filter is that of the table's keys, and the result is
     /// false, it has none. It takes no memory.
     pub fn perhaps(&self, key: &[u8]) -> bool
         ensures { result ≡ is_perhaps self.now.filter key.now }
@@ -161,14 +161,14 @@ impl<A: Allocator> Table<A> {
         self.filter.perhaps(key)
     }
 
-    /// What [`Table::perhaps`] answers for the keys that have this hash. It takes no memory, and reads no key.
+    /// What [`Table::perhaps`] returns for the keys that have this hash. It takes no memory, and reads no key.
     pub fn perhaps_hashed(&self, hash: KeyHash) -> bool
         ensures { result ≡ has_bits self.now.filter hash }
     {
         self.filter.perhaps_hashed(hash)
     }
 
-    /// How many data blocks end before the key, as the index tells, found by a binary search over the edges. It takes no memory.
+    /// How many data blocks end before the key, by the index, found by a binary search over the edges. It takes no memory.
     pub fn blocks_before(&self, key: &[u8]) -> usize
         ensures { result ≡ blocks_before key.now self.now.edges }
     {
