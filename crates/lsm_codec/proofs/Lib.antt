@@ -8,6 +8,7 @@ pub mod Limits
 pub mod Fields
 pub mod Decoding
 pub mod Padding
+pub mod Places
 pub mod SuperblockLaws
 pub mod LogSectorLaws
 pub mod BatchLaws

@@ -12,6 +12,7 @@ pub mod Manifests
 pub mod Versions
 pub mod Guards
 pub mod References
+pub mod Places
 pub mod Entries
 pub mod Indexes
 pub mod Footers

@@ -1,5 +1,5 @@
 -- Versions of keys, and their order.
-use Rattle.std.specs.Prelude.{◌≡◌, ℕ, ◌≤◌, ◌^◌, Bool, false, ◌&&◌, nat_lt, nat_le, List, [], ◌∷◌, length, take, drop, sum_by, Option, Some, None, if◌then◌else◌}
+use Rattle.std.specs.Prelude.{◌≡◌, ℕ, ◌≤◌, ◌^◌, Bool, ◌&&◌, nat_lt, nat_le, List, [], ◌∷◌, length, sum_by, Option, Some, None, if◌then◌else◌}
 use Rattle.std.specs.declared.cmp.Ordering.{Ordering}
 use Rattle.std.specs.declared.cmp.Ordering.TheVariants.{Less}
 use Rattle.std.specs.Ordering.{is_eq, nat_cmp, ordering_then}
@@ -58,13 +58,3 @@ pub record IsEntry (v : Version) : Type 0 where
   pub number_low : 1 ≤ v.number
   pub number_high : v.number ≤ 2 ^ 63
   pub value : value_length v.value ≤ 2048
-
--- the version that bytes hold: the key, and right after it the value, where there is one
-abbrev pub version_in : Bytes → ℕ → ℕ → Bool → Version
-version_in bytes key_len number has_value = record { key = take key_len bytes; number = number; value = if has_value then Some (drop key_len bytes) else None }
-
--- bytes that hold the version of an entry, and nothing else
-pub record IsEntryIn (bytes : Bytes) (key_len number : ℕ) (has_value : Bool) : Type 0 where
-  pub key_inside : key_len ≤ length bytes
-  pub value_alone : has_value ≡ false → length bytes ≡ key_len
-  pub entry : IsEntry (version_in bytes key_len number has_value)

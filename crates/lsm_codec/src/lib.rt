@@ -10,6 +10,7 @@ mod entry;
 mod entry_text;
 mod filled;
 mod footer;
+mod gathered;
 mod geometry;
 mod guard;
 mod index;
@@ -25,6 +26,7 @@ mod manifest_text;
 mod operation;
 mod operation_text;
 mod operations;
+mod place;
 mod records;
 mod superblock;
 mod table_record;
@@ -37,6 +39,7 @@ pub use batch::Batch;
 pub use data_block::encode_data_block;
 pub use entry::Entry;
 pub use footer::Footer;
+pub use gathered::Gathered;
 pub use geometry::{
     LEAST_LOG_SECTORS, LEAST_SECTORS, MOST_LOG_SECTORS, MOST_SECTORS, ROOT_SECTORS, data_blocks,
     is_device_size, is_log_size,
