@@ -1,6 +1,6 @@
 //! The memory table of a log that is closed.
 
-ghost use Rattle.std.specs.Prelude.{◌≡◌, [], IfOk, IfErr, option_map, option_and_then, filter, filter_map};
+ghost use Rattle.std.specs.Prelude.{◌≡◌, ◌++◌, [], IfOk, OnOk, IfErr, option_map, option_and_then, filter, filter_map};
 ghost use Rattle.std.specs.Arc.{arc_value};
 ghost use Rattle.std.specs.List.{AllByRecursion};
 ghost use Rattle.std.specs.Ordering.{is_le};
@@ -16,10 +16,36 @@ use crate::iter::Range;
 use crate::mem::Mem;
 use crate::size::MemSize;
 use crate::walk::AllVersions;
-use lsm_codec::{Entry, VersionRef};
+use lsm_codec::{Entry, Gathered, VersionRef};
 use std::alloc::{AllocError, Allocator, Global};
 use std::marker::Model;
 use std::sync::Arc;
+
+/// The bytes that fill a block of memory which entries share. It has room for one version more.
+const GATHERED_BYTES: usize = 16_384;
+
+/// Room for the versions whose entries share the next block of memory.
+fn gathering<A: Allocator + Clone>(alloc: &A) -> Result<Gathered<A>, AllocError>
+    ensures { IfOk result (λ gathered. gathered ≡ []) }
+{
+    Gathered::with_capacity(alloc.clone()?, GATHERED_BYTES + 2_303, 64)
+}
+
+/// Moves the versions that were gathered to the entries, if they fill their block of memory.
+fn move_if_full<A: Allocator + Clone>(
+    alloc: &A,
+    gathered: &mut Gathered<A>,
+    entries: &mut Vec<Entry<A>, A>,
+) -> Result<(), AllocError>
+    ensures { OnOk result (entries.new.items ++ gathered.new ≡ entries.old.items ++ gathered.old) }
+{
+    if gathered.bytes() < GATHERED_BYTES {
+        return Ok(());
+    }
+    let full = std::mem::replace(gathered, gathering(alloc)?);
+    entries.append(&mut full.into_entries()?)?;
+    Ok(())
+}
 
 /// Every version of every key, of a memory table that takes no more batches. Contracts see the list of versions, by key
 /// and of a key the newest first.
@@ -104,9 +130,12 @@ impl<A: Allocator> Sealed<A> {
         ensures ordered { IfOk result (λ entries. AreOrdered entries.items) }
     {
         let mut entries = Vec::new(alloc.clone()?);
+        let mut gathered = gathering(&alloc)?;
         for version in self.versions() {
-            entries.push(Entry::from_ref(alloc.clone()?, version)?)?;
+            move_if_full(&alloc, &mut gathered, &mut entries)?;
+            gathered.push(version)?;
         }
+        entries.append(&mut gathered.into_entries()?)?;
         Ok(entries)
     }
 }

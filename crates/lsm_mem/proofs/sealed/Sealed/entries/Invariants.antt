@@ -8,5 +8,5 @@ invariant-loop-version g l = record {
   can : (goal.iterator-loop-version g).can_next l.version-iterator;
   finite : (goal.iterator-loop-version g).is_finite l.version-iterator;
   within : AllByRecursion IsEntry l.version-iterator;
-  copied : l.entries.items ++ l.version-iterator ≡ l.self;
+  copied : (l.entries.items ++ l.gathered) ++ l.version-iterator ≡ l.self;
 }
