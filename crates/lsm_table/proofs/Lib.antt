@@ -16,6 +16,7 @@ pub mod LastEdges
 pub mod Outlines
 pub mod TableCounts
 pub mod Reading
+pub mod Items
 pub mod Filters
 pub mod Deletes
 pub mod Largest

@@ -2,6 +2,7 @@
 #![tactic(auto)]
 
 mod counting;
+mod decoding;
 mod division;
 mod edges;
 mod entries;
@@ -14,6 +15,7 @@ mod layout;
 mod outline;
 mod table;
 
+pub use decoding::decode_data_block;
 pub use division::images;
 pub use entries::Entries;
 pub use entry_place::EntryPlace;

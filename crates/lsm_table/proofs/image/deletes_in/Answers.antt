@@ -1,5 +1,5 @@
-use Rattle.std.proofs.Common.{take, arith}
-use Rattle.lsm_table.proofs.Deletes.{few_deletes, few_taken, taken_few}
+use Rattle.std.proofs.Common.{arith}
+use Rattle.lsm_table.proofs.Deletes.{few_taken, taken_few}
 use Rattle.lsm_table.proofs.image.deletes_in.Goals as goal
 
 pub overflow_add-deletes : goal.overflow_add-deletes

@@ -1,6 +1,5 @@
-use Rattle.std.proofs.Common.{◌+◌, map, length, ap, arith}
+use Rattle.std.proofs.Common.{◌+◌, ap, arith}
 use Rattle.lsm_codec.specs.Versions.{deletes_in}
-use Rattle.lsm_table.specs.Division.{entries_of}
 use Rattle.lsm_table.proofs.Deletes.{block_more, few_in_blocks}
 use Rattle.lsm_table.proofs.image.deletes_of.Goals as goal
 
