@@ -203,7 +203,8 @@ pub fn build_gated<R: Threads + Sync, A: Allocator + Clone + Send + Sync, G: Gat
 
 /// The tables of what a merge keeps, with its input, merged in 1 to 8 parts, each on a thread of its own, or by the caller
 /// where no thread can be started. The tables are the same for every number of parts, and divided at no key. Fails with
-/// BadLimit for another number, and with NoMemory where memory runs out. What is kept is copied once.
+/// BadLimit for another number, and with NoMemory where memory runs out. What is kept shares the memory of the
+/// input.
 pub fn build<R: Threads + Sync, A: Allocator + Clone + Send + Sync>(
     rt: &R,
     alloc: A,

@@ -6,7 +6,7 @@ ghost use Rattle.lsm_codec.specs.Versions.{Version, AreOrdered};
 ghost use Rattle.lsm_merge.specs.Keeping.{is_newest_at_a_cut, settled};
 ghost use Rattle.lsm_merge.specs.Loops.{starts_with_key, settled_onto, number_before, previous, shows_at as is_shown_at, shown, KeepsOf};
 
-use crate::order::{copy_of, have_one_key, is_delete};
+use crate::order::{have_one_key, is_delete};
 use lsm_codec::Entry;
 use std::alloc::{AllocError, Allocator};
 
@@ -134,16 +134,16 @@ pub(crate) fn keep<'a, A: Allocator + Clone>(
     Ok(newest)
 }
 
-/// Copies of the entries that references show.
-pub(crate) fn copied<A: Allocator + Clone>(
+/// The entries that references show, which share their memory with these.
+pub(crate) fn shared<A: Allocator>(
     alloc: A,
     entries: &[&Entry<A>],
 ) -> Result<Vec<Entry<A>, A>, AllocError>
     ensures { IfOk result (λ v. v.items ≡ shown entries.now) }
 {
-    let mut copies = Vec::new(alloc.clone()?);
+    let mut all = Vec::with_capacity(alloc, entries.len())?;
     for entry in entries {
-        copies.push(copy_of(&alloc, entry)?)?;
+        all.push(entry.share()?)?;
     }
-    Ok(copies)
+    Ok(all)
 }

@@ -1,10 +1,10 @@
 //! The order of entries.
 
-ghost use Rattle.std.specs.Prelude.{◌≡◌, IfOk, is_none};
+ghost use Rattle.std.specs.Prelude.{◌≡◌, is_none};
 ghost use Rattle.lsm_codec.specs.Versions.{entry_order, is_same_key};
 
-use lsm_codec::{Entry, VersionRef};
-use std::alloc::{AllocError, Allocator};
+use lsm_codec::Entry;
+use std::alloc::Allocator;
 use std::cmp::Ordering;
 
 /// Whether both are of one key.
@@ -29,19 +29,4 @@ pub(crate) fn is_delete<A: Allocator>(entry: &Entry<A>) -> bool
     ensures { result ≡ is_none entry.now.value }
 {
     entry.value().is_none()
-}
-
-/// A copy of the entry.
-pub(crate) fn copy_of<A: Allocator + Clone>(
-    alloc: &A,
-    entry: &Entry<A>,
-) -> Result<Entry<A>, AllocError>
-    ensures { IfOk result (λ e. e ≡ entry.now) }
-{
-    let version = VersionRef {
-        key: entry.key(),
-        number: entry.number(),
-        value: entry.value(),
-    };
-    Entry::from_ref(alloc.clone()?, version)
 }

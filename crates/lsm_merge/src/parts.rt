@@ -8,7 +8,7 @@ ghost use Rattle.lsm_mem.specs.Versions.{joined};
 ghost use Rattle.lsm_merge.specs.Ranges.{shown_key, within};
 
 use crate::input::{Input, within};
-use crate::keeping::{copied, keep};
+use crate::keeping::{keep, shared};
 use crate::merging::{merge_two, referred};
 use lsm_codec::Entry;
 use lsm_device::Refusal;
@@ -48,12 +48,13 @@ pub(crate) fn kept_part<A: Allocator + Clone>(
 {
     let entries = merge(&alloc, input.runs(), from, to)?;
     let kept = keep(&alloc, &entries, input.cuts(), input.is_bottom())?;
-    Ok(copied(alloc, &kept)?)
+    Ok(shared(alloc, &kept)?)
 }
 
-/// The entries that the merge keeps of a range of keys, from a key on and below a key, in order: the copies of those that are,
+/// The entries that the merge keeps of a range of keys, from a key on and below a key, in order: those that are,
 /// for some cut, the newest of their key numbered at most the cut; of two with one key and number that of the newer run;
-/// with nothing older below, no delete without an older kept put of its key. Fails with NoMemory alone.
+/// with nothing older below, no delete without an older kept put of its key. They share the memory of the entries of the
+/// input. Fails with NoMemory alone.
 pub fn part<A: Allocator + Clone>(
     alloc: A,
     input: &Input<A>,

@@ -22,5 +22,5 @@ returns g c =
     let ordered = ap shown c.deref.ensures.value ∙ c.in_ok-entries.ensures in
     let view : one (items_of c.runs.result.now) c.cuts.result.now c.is_bottom.result ≡ input =
     ap (λ runs. one runs c.cuts.result.now c.is_bottom.result) c.runs.ensures.same ∙ ap (λ cuts. one input.runs cuts c.is_bottom.result) c.cuts.ensures.same ∙ ap (one input.runs input.cuts) c.is_bottom.ensures in
-    c.in_ok-copied.ensures ∙ ap shown c.deref-2.ensures.value
+    c.in_ok-shared.ensures ∙ ap shown c.deref-2.ensures.value
     ∙ part_is input (items_of c.runs.result.now) c.cuts.result.now c.is_bottom.result from to (shown c.deref.result.now) (shown c.in_ok-kept.kept.items) view ordered c.in_ok-kept.ensures
