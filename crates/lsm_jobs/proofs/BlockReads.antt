@@ -19,8 +19,9 @@ use Rattle.lsm_levels.specs.Tables.{Table}
 use Rattle.lsm_levels.specs.Asking.{OnlyReads, sector_of}
 use Rattle.lsm_levels.specs.Stored.{blocks_from}
 use Rattle.lsm_levels.proofs.LookingUp.{more_reads}
+use Rattle.lsm_table.proofs.Items.{Item}
 use Rattle.lsm_jobs.specs.Gathering.{data_blocks, blocks_in, items_in, GoesOn, ReadsBlocks}
-use Rattle.lsm_jobs.proofs.GoingOn.{Item, SameEnd, then_end, joined, none_with_more, ended}
+use Rattle.lsm_jobs.proofs.GoingOn.{SameEnd, then_end, joined, none_with_more, ended}
 
 -- ---- what is done to the device
 

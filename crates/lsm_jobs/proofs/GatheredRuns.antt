@@ -10,11 +10,12 @@ use Rattle.lsm_levels.specs.Tables.{Table, versions_of}
 use Rattle.lsm_levels.specs.Levels.{all_tables}
 use Rattle.lsm_levels.specs.Pick.{Merge, inputs}
 use Rattle.lsm_levels.proofs.LevelVersions.{all_versions}
+use Rattle.lsm_table.proofs.Items.{Item}
 use Rattle.lsm_jobs.specs.Numbers.{Inputs, merge_of}
 use Rattle.lsm_jobs.specs.Slots.{Slot, Reading}
 use Rattle.lsm_jobs.specs.Taking.{slot_with}
 use Rattle.lsm_jobs.specs.Gathering.{Gathered, none_gathered, input_ahead, blocks_left, data_blocks, ends_run, with_first, ascending_runs, run_length, items_between, runs_ahead, fronts, GoesOn, IsLonger, RunsGoOn}
-use Rattle.lsm_jobs.proofs.GoingOn.{Item, first_ordered, taken_back}
+use Rattle.lsm_jobs.proofs.GoingOn.{first_ordered, taken_back}
 
 -- ---- the runs of tables
 

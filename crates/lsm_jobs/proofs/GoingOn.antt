@@ -1,56 +1,20 @@
 -- Runs that go on with items.
-use Rattle.std.proofs.Common.{◌≡◌, ◌↔◌, ℕ, zero, suc, ◌+◌, ◌-◌, ◌<◌, ◌≤◌, ◌==◌, Bool, true, false, cond, IsTrue, List, [], ◌∷◌, ◌++◌, length, map, take, drop, get_or, Some, None, Result, Ok, Err, refl, sym, ap, subst, ◌∙◌, append_assoc, append-nil, arith}
+use Rattle.std.proofs.Common.{◌≡◌, ◌↔◌, ℕ, ◌+◌, ◌-◌, ◌<◌, ◌≤◌, Bool, true, IsTrue, List, [], ◌∷◌, ◌++◌, length, map, take, drop, get_or, Some, Ok, Err, refl, sym, ap, subst, ◌∙◌, append_assoc, append-nil, arith}
 use Rattle.std.specs.List.{AllByRecursion, slice_get}
 use Rattle.std.specs.Ordering.{is_lt}
 use Rattle.std.proofs.lemmas.List.{map-append, take_all, take_at, take_more, take-append-drop}
 use Rattle.std.proofs.lemmas.Option.{slice_get_within, get_or_from_slice_get}
 use Rattle.std.proofs.lemmas.List.Elements.{All-from_recursion}
 use Rattle.lsm_device.specs.declared.refusal.Refusal.{Refusal}
-use Rattle.lsm_device.specs.declared.refusal.Refusal.TheVariants.{BadTable}
-use Rattle.lsm_codec.specs.Keys.{IsBytes}
-use Rattle.lsm_codec.specs.Reading.{number_at}
-use Rattle.lsm_codec.specs.Versions.{Version, IsEntry, AreOrdered, entry_order}
-use Rattle.lsm_codec.specs.Entries.{are_zeros, entry_at, entries_from, entries_in}
+use Rattle.lsm_codec.specs.Versions.{Version, AreOrdered, entry_order}
 use Rattle.lsm_codec.proofs.KeyOrder.{is_lt_Less}
 use Rattle.lsm_codec.proofs.Lists.{all_append, all_right}
-use Rattle.lsm_codec.proofs.Readers.{Reader, Reads, after, number_reads}
-use Rattle.lsm_codec.proofs.EntryLaws.{entry_reads}
+use Rattle.lsm_table.proofs.Items.{Item}
 use Rattle.lsm_table.proofs.Orders.{Before, before_along, next_before, befores, later_pairs, front_pairs}
 use Rattle.lsm_jobs.specs.Gathering.{GoesOn, IsLonger}
 
-abbrev pub Item : Type 0
-Item = Result Version Refusal
-
 abbrev ok : Version → Item
 ok v = Ok v
-
--- ---- what items are
-
--- an item is an entry, or BadTable
-abbrev pub IsItem : Item → Type 0
-IsItem (Ok v) = IsEntry v
-IsItem (Err e) = e ≡ BadTable
-
-rest_fits : {X : Type 0} {read : Reader X} {Fits : X → Type 0} {spelling : X → List ℕ} → Reads read Fits spelling → (bytes : List ℕ) (x : X × List ℕ) → IsBytes bytes → read bytes ≡ Some x → IsBytes x.1
-rest_fits {spelling = spelling} reads bytes x fit e = after bytes (spelling x.0) x.1 fit (reads.found bytes x fit e).1
-
-items_from : (n : ℕ) (bytes : List ℕ) → IsBytes bytes → AllByRecursion IsItem (entries_from n bytes)
-unfolding entries_from
-items_from zero bytes fit = elim (are_zeros bytes) as (λ b. AllByRecursion IsItem (cond b [] (Err BadTable ∷ []))) [ true ↦ tt | false ↦ (refl, tt) ]
-items_from (suc n) bytes fit = elim (entry_at bytes) as (λ o. entry_at bytes ≡ o → AllByRecursion IsItem (elim o as (λ _. List Item) [ None ↦ Err BadTable ∷ [] | Some x ↦ Ok x.0 ∷ entries_from n x.1 ])) [
-  | None ↦ λ e. (refl, tt)
-  | Some x ↦ λ e. let h = entry_reads.found bytes x fit e in (h.0, items_from n x.1 (rest_fits entry_reads bytes x fit e))
-] refl
-
-pub block_items : (bytes : List ℕ) → IsBytes bytes → AllByRecursion IsItem (entries_in bytes)
-unfolding entries_in
-block_items bytes fit = elim (number_at 2 bytes) as (λ o. number_at 2 bytes ≡ o → AllByRecursion IsItem (elim o as (λ _. List Item) [ None ↦ Err BadTable ∷ [] | Some x ↦ cond (x.0 == 0) (Err BadTable ∷ []) (entries_from x.0 x.1) ])) [
-  | None ↦ λ e. (refl, tt)
-  | Some x ↦ λ e. elim (x.0 == 0) as (λ b. AllByRecursion IsItem (cond b (Err BadTable ∷ []) (entries_from x.0 x.1))) [
-    | true ↦ (refl, tt)
-    | false ↦ items_from x.0 x.1 (rest_fits (number_reads 2) bytes x fit e)
-  ]
-] refl
 
 -- ---- the order of a run with one more entry
 

@@ -19,11 +19,11 @@ use Rattle.lsm_table.specs.BlockEdges.{last_edge, edges_of}
 use Rattle.lsm_table.specs.Places.{stands_before}
 use Rattle.lsm_table.specs.Stored.{table_of}
 use Rattle.lsm_table.proofs.Orders.{Before, before_along, next_before, befores, later_pairs, front_pairs}
+use Rattle.lsm_table.proofs.Items.{Item}
 use Rattle.lsm_mem.proofs.OrderTests.{entry_order_total}
 use Rattle.lsm_codec.proofs.Lists.{filter_all, filter_none, all_map}
 use Rattle.lsm_levels.proofs.StoredLaws.{block_entries}
 use Rattle.lsm_jobs.specs.Gathering.{items_in}
-use Rattle.lsm_jobs.proofs.GoingOn.{Item}
 
 -- ---- which versions the edge of a block stands before
 

@@ -9,11 +9,11 @@ use Rattle.std.proofs.lemmas.List.Sums.{sum_by-cons}
 use Rattle.lsm_codec.specs.Versions.{Version, AreOrdered}
 use Rattle.lsm_table.specs.Division.{Block, TableBlocks, entries_of}
 use Rattle.lsm_table.proofs.Orders.{front_pairs}
+use Rattle.lsm_table.proofs.Items.{Item}
 use Rattle.lsm_levels.specs.Tables.{Table, versions_of}
 use Rattle.lsm_levels.specs.Asking.{sector_of}
 use Rattle.lsm_levels.specs.Stored.{blocks_from, IsStored}
 use Rattle.lsm_jobs.specs.Gathering.{data_blocks, blocks_in, items_in, GoesOn, versions_from, versions_behind}
-use Rattle.lsm_jobs.proofs.GoingOn.{Item}
 use Rattle.lsm_jobs.proofs.BlockReads.{length-blocks_from}
 use Rattle.lsm_jobs.proofs.StoredBlocks.{ok, Spell, from_block, spelled, spell_append, spell_drop, spell_take, spell_items, spell_length, same_entries}
 

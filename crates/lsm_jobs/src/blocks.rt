@@ -8,16 +8,15 @@ ghost use Rattle.lsm_device.specs.Disk.{seen};
 ghost use Rattle.lsm_device.specs.Medium.{disk};
 ghost use Rattle.lsm_device.specs.Refusals.{faultless};
 ghost use Rattle.lsm_codec.specs.Versions.{Version, AreOrdered, entry_order};
-ghost use Rattle.lsm_codec.specs.References.{shown};
 ghost use Rattle.lsm_codec.specs.Entries.{entries_in};
 ghost use Rattle.lsm_levels.specs.Stored.{LiesWithin, blocks_from};
 ghost use Rattle.lsm_jobs.specs.Gathering.{data_blocks, blocks_in, items_in, GoesOn, IsLonger, ReadsBlocks};
 
 use lsm_cache::read_block;
-use lsm_codec::{Entry, VersionRef};
+use lsm_codec::Entry;
 use lsm_device::{Device, Refusal};
 use lsm_levels::PlacedTable;
-use lsm_table::Entries;
+use lsm_table::decode_data_block;
 use std::alloc::Allocator;
 use std::cmp::Ordering;
 
@@ -34,30 +33,30 @@ pub(crate) fn data_blocks<A: Allocator>(tables: &[PlacedTable<A>]) -> usize
     blocks
 }
 
-/// Whether an entry stands before a version, in the order of entries.
-fn is_before<A: Allocator>(entry: &Entry<A>, version: &VersionRef<'_>) -> bool
-    ensures { result ≡ is_lt (entry_order entry.now (shown version.now)) }
+/// Whether an entry is before another one, in the order of entries.
+fn is_before<A: Allocator>(entry: &Entry<A>, other: &Entry<A>) -> bool
+    ensures { result ≡ is_lt (entry_order entry.now other.now) }
 {
-    match entry.key().cmp(version.key) {
+    match entry.key().cmp(other.key()) {
         Ordering::Less => true,
-        Ordering::Equal => entry.number() > version.number,
+        Ordering::Equal => entry.number() > other.number(),
         Ordering::Greater => false,
     }
 }
 
-/// Whether a version comes after the last entry of a run.
-fn comes_after<A: Allocator>(run: &[Entry<A>], version: &VersionRef<'_>) -> bool
+/// Whether an entry comes after the last one of a run.
+fn comes_after<A: Allocator>(run: &[Entry<A>], entry: &Entry<A>) -> bool
     requires { AreOrdered run.now }
-    ensures { IsTrue result ↔ AreOrdered (run.now ++ shown version.now ∷ []) }
+    ensures { IsTrue result ↔ AreOrdered (run.now ++ entry.now ∷ []) }
 {
     match run.last() {
-        Some(last) => is_before(last, version),
+        Some(last) => is_before(last, entry),
         None => true,
     }
 }
 
-/// Adds copies of a block's entries to a run. `BadTable` exactly where its bytes are no data block, or where an entry doesn't
-/// come after the one before it in the run; then, and where memory is refused, those before may have been added.
+/// Adds a block's entries to a run. `BadTable` exactly where its bytes are no data block, or where an entry doesn't come after
+/// the one before it in the run; then, and where memory is refused, those before may have been added.
 fn add_block<A: Allocator + Clone>(
     alloc: &A,
     run: &mut Vec<Entry<A>, A>,
@@ -70,12 +69,11 @@ fn add_block<A: Allocator + Clone>(
     ensures ordered { AreOrdered run.new.items }
     ensures refused { IfErr result (λ refusal. (refusal ≡ BadTable) ⊎ (refusal ≡ NoMemory)) }
 {
-    for item in Entries::new(block) {
-        let version = item?;
-        if !comes_after(run, &version) {
+    for entry in decode_data_block(alloc, block)? {
+        if !comes_after(run, &entry) {
             return Err(Refusal::BadTable);
         }
-        run.push(Entry::from_ref(alloc.clone()?, version)?)?;
+        run.push(entry)?;
     }
     Ok(())
 }
