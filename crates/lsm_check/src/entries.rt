@@ -17,23 +17,18 @@ use lsm_cache::read_block;
 use lsm_codec::{Edge, Entry};
 use lsm_device::{Device, Refusal};
 use lsm_levels::PlacedTable;
-use lsm_table::Entries;
+use lsm_table::decode_data_block;
 use std::alloc::Allocator;
 
-// Copies of the entries that the bytes of a block spell. `BadTable` exactly where they spell none.
+// The entries that the bytes of a block spell. `BadTable` exactly where they spell none.
 fn decode<A: Allocator + Clone>(alloc: &A, block: &[u8; 4_096]) -> Result<Vec<Entry<A>, A>, Refusal>
     ensures spelled { IfOk result (λ entries. block_of block.now ≡ Some entries.items) }
     ensures refused { IfErr result (λ refusal. (refusal ≡ Refusal.NoMemory) ⊎ ((refusal ≡ Refusal.BadTable) × (block_of block.now ≡ None))) }
 {
-    let mut entries = Vec::new(alloc.clone()?);
-    for item in Entries::new(block) {
-        let version = item?;
-        entries.push(Entry::from_ref(alloc.clone()?, version)?)?;
-    }
-    Ok(entries)
+    Ok(decode_data_block(alloc, block)?)
 }
 
-// Copies of the entries of the data block that begins with a sector.
+// The entries of the data block that begins with a sector.
 fn read_entries<D: Device, A: Allocator + Clone>(
     alloc: &A,
     device: &mut D,

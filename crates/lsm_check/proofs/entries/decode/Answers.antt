@@ -1,59 +1,15 @@
-use Rattle.std.proofs.Common.{◌≡◌, List, [], ◌∷◌, ◌++◌, Ok, Err, inr, Result, sym, ap, subst, ◌∙◌}
-use Rattle.std.proofs.lemmas.List.{append-nil}
+use Rattle.std.proofs.Common.{inl, inr}
 use Rattle.std.proofs.lemmas.Result.{err_from_is_err_and}
-use Rattle.std.specs.List.{AllByRecursion}
-use Rattle.lsm_device.specs.declared.refusal.Refusal.{Refusal}
-use Rattle.lsm_codec.specs.declared.version.VersionRef.{VersionRef}
-use Rattle.lsm_codec.specs.References.{shown}
-use Rattle.lsm_codec.specs.Versions.{Version}
-use Rattle.lsm_codec.specs.Entries.{entries_in}
-use Rattle.lsm_table.specs.Items.{shown_item}
-use Rattle.lsm_jobs.proofs.GoingOn.{IsItem, block_items}
-use Rattle.lsm_check.proofs.BlockEntries.{Item, items_of, one_more, all_spelled, none_spelled}
+use Rattle.lsm_check.proofs.BlockEntries.{all_spelled, none_spelled}
 use Rattle.lsm_check.proofs.entries.decode.Goals as goal
 
-pub loop-item-init : goal.loop-item-init
-loop-item-init g c =
-    let items = entries_in c.args.block.now in
-    let e : c.into_iter-item-iterator.result ≡ items = cc in
-    let none : c.new-entries.result.items ≡ [] = c.new-entries.ensures.items in
-    record {
-      can = tt;
-      finite = tt;
-      items = subst (λ (l : List Item). AllByRecursion IsItem l) (sym e) (block_items c.args.block.now (record { fit = c.fits-block }));
-      read = sym (ap (λ (l : List Version). items_of l ++ c.into_iter-item-iterator.result) none ∙ e);
-    }
-
-pub returns-in_err-version-clause-refused : goal.returns-in_err-version-clause-refused
-returns-in_err-version-clause-refused g c =
-    let k = c.loop-item.invariant in
-    let e = c.in_err-version.field-0.0 in
-    let rest = c.next.new.self in
-    let step : c.loop-item.item-iterator ≡ Err e ∷ rest = c.in-Some.ensures.steps ∙ ap (λ (i : Result VersionRef Refusal). shown_item i ∷ rest) c.in_err-version.was in
-    let items : AllByRecursion IsItem (Err e ∷ rest) = subst (λ (l : List Item). AllByRecursion IsItem l) step k.items in
-    let read : entries_in c.args.block.now ≡ items_of c.loop-item.entries.items ++ Err e ∷ rest = k.read ∙ ap (λ (l : List Item). items_of c.loop-item.entries.items ++ l) step in
-    let p = err_from_is_err_and c.from_residual-in_err-version.result c.from_residual-in_err-version.ensures.1 in
-    rw (p.1, p.2) (inr (items.0, none_spelled c.args.block.now c.loop-item.entries.items e rest read))
-
-pub loop-item-preserved : goal.loop-item-preserved
-loop-item-preserved g c =
-    let k = c.loop-item.invariant in
-    let entries = c.loop-item.entries.items in
-    let v = shown c.in_ok-version.version in
-    let rest = c.next.new.self in
-    let step : c.loop-item.item-iterator ≡ Ok v ∷ rest = c.in-Some.ensures.steps ∙ ap (λ (i : Result VersionRef Refusal). shown_item i ∷ rest) c.in_ok-version.was in
-    let pushed : c.push.new.self.items ≡ entries ++ c.in_ok-from_ref.field-0 ∷ [] = c.in_ok-push.ensures.items in
-    let is : c.push.new.self.items ≡ entries ++ v ∷ [] = pushed ∙ ap (λ (u : Version). entries ++ u ∷ []) c.in_ok-from_ref.ensures in
-    let items : AllByRecursion IsItem (Ok v ∷ rest) = subst (λ (l : List Item). AllByRecursion IsItem l) step k.items in
-    record {
-      can = tt;
-      finite = tt;
-      items = items.1;
-      read = k.read ∙ ap (λ (l : List Item). items_of entries ++ l) step ∙ one_more entries v rest ∙ ap (λ (l : List Version). items_of l ++ rest) (sym is);
-    }
+pub returns-in_err-decode_data_block-clause-refused : goal.returns-in_err-decode_data_block-clause-refused
+returns-in_err-decode_data_block-clause-refused g c =
+    let p = err_from_is_err_and c.from_residual.result c.from_residual.ensures.1 in
+    rw (p.1, p.2) (elim c.in_err-decode_data_block.ensures.refused [
+      | inl memory ↦ inl memory
+      | inr bad ↦ inr (bad.0, none_spelled c.args.block.now bad.1)
+    ])
 
 pub returns-clause-spelled : goal.returns-clause-spelled
-returns-clause-spelled g c =
-    let entries = c.loop-item.entries.items in
-    let none : c.loop-item.item-iterator ≡ [] = c.in-None.ensures.steps.0 in
-    all_spelled c.args.block.now entries (record { fit = c.fits-block }) c.told-block (c.loop-item.invariant.read ∙ ap (λ (l : List Item). items_of entries ++ l) none ∙ append-nil (items_of entries))
+returns-clause-spelled g c = all_spelled c.args.block.now c.in_ok-decode_data_block.field-0.items (record { fit = c.fits-block }) c.told-block c.in_ok-decode_data_block.ensures.spelled
