@@ -1,9 +1,9 @@
 //! The state of a store on which a choice is made.
 
-ghost use Rattle.std.specs.Prelude.{◌≡◌, ◌+◌, ◌≤◌, ◌<◌, [], true, false, length, is_some, Some, IfSome};
+ghost use Rattle.std.specs.Prelude.{◌≡◌, ◌+◌, ◌≤◌, ◌<◌, ◌&&◌, nat_lt, [], true, false, length, is_some, Some, IfSome};
 ghost use Prim.Native.Nat.{min};
 ghost use Rattle.lsm_extent.specs.Area.{free_count};
-ghost use Rattle.lsm_extent.specs.Gaps.{SurelyFit};
+ghost use Rattle.lsm_extent.specs.Gaps.{SurelyFit, has_sure_room};
 ghost use Rattle.lsm_levels.specs.Levels.{all_tables};
 ghost use Rattle.lsm_levels.specs.Moving.{table_count};
 ghost use Rattle.lsm_policy.specs.Room.{taken_blocks, blocks_of as blocks_in};
@@ -120,8 +120,9 @@ impl<'a, H: HeldJobs, A: Allocator> Standing<'a, H, A> {
         all < u64::MAX && all.saturating_sub(gone).saturating_add(outputs.tables) <= MOST_TABLES
     }
 
-    /// Whether outputs are sure to find room in blocks, however many tables there are.
+    /// Whether outputs are sure to find room in blocks, however many tables there are. None has more blocks than all of them.
     pub fn has_room(&self, outputs: Outputs) -> bool
+        ensures test { result ≡ (nat_lt outputs.blocks 4294967296 && has_sure_room self.now.extents.now outputs.blocks (min outputs.largest outputs.blocks)) }
         ensures room { result ≡ true → SurelyFit self.now.extents.now outputs.blocks outputs.largest }
         ensures few { result ≡ true → outputs.blocks < 4294967296 }
     {
