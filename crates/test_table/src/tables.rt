@@ -4,7 +4,7 @@ use crate::input::images_of_puts;
 use hex::decode_to_slice;
 use lsm_codec::TableRecord;
 use lsm_device::Refusal;
-use lsm_table::{Entries, EntryPlace, EntrySpan, Image, Table};
+use lsm_table::{Entries, EntryPlace, EntrySpan, Image, Table, decode_data_block};
 use std::alloc::Global;
 use std::process::Abort;
 
@@ -43,6 +43,33 @@ fn the_extent_of_one_put(rt: HostRuntime) {
         assert!(rt; has_block(&image, at, text));
     }
     assert!(rt; image.extent_blocks() == 4 && block_of(FOOTER) == Some(image.footer(1)));
+}
+
+/// How many entries a block has, and whether the first is the put of `1` under `a`.
+fn decoded(alloc: Global, block: &[u8; 4_096]) -> Result<(usize, bool), Refusal> {
+    let entries = decode_data_block(&alloc, block)?;
+    let is_put = match entries.first() {
+        Some(entry) => {
+            entry.key() == b"a".as_slice()
+                && entry.number() == 1
+                && entry.value() == Some(b"1".as_slice())
+        }
+        None => false,
+    };
+    Ok((entries.len(), is_put))
+}
+
+#[test]
+fn a_data_block_is_decoded(rt: HostRuntime) {
+    for (text, wanted) in [
+        (DATA_BLOCK, Ok((1, true))),
+        ("", Err(Refusal::BadTable)), // No entry.
+        ("00020161000000000000000101000131", Err(Refusal::BadTable)), // One entry of two.
+        ("0001016100000000000000010100013101", Err(Refusal::BadTable)), // A byte after the entry.
+    ] {
+        let block = block_of(text).expect(&rt, "a block");
+        assert!(rt; decoded(rt.alloc(), &block) == wanted, "{text}");
+    }
 }
 
 /// The table of three puts under number 9, each in a block of its own.

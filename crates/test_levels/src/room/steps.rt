@@ -5,7 +5,7 @@ use crate::slots::Slots;
 use crate::tables::{PutKeys, levels_of, no_tables};
 use lsm_extent::Extents;
 use lsm_levels::{Choice, Levels};
-use lsm_room::{Advice, Standing};
+use lsm_room::{Advice, Outputs, Standing};
 use std::alloc::{AllocError, Global};
 
 /// What is advised: nothing; a choice with so many divisions, which is sure to find room or not; or that room lacks for a choice.
@@ -98,6 +98,49 @@ fn tables_go_down(rt: HostRuntime) {
     let run = levels_of(&rt, rt.alloc(), &[ALONE], &[]);
     let oldest = Choice::OldestRuns { count: 1 };
     assert!(rt; down(rt.alloc(), &run, &extents) == Told::Take(oldest, 0));
+}
+
+#[test]
+fn what_choices_make(rt: HostRuntime) {
+    let levels = levels_of(&rt, rt.alloc(), &[], OVER_THREE);
+    let extents = area_of(&rt, rt.alloc(), 1, 6);
+    let held = Slots::Free;
+    let standing = standing(&levels, &extents, &held);
+    // The merge may make one table of two data blocks, and a copy makes one of a single block; each has three blocks besides.
+    for (choice, wanted) in [
+        (table(11), Some((6, 1))),
+        (rewrite(14, 14), Some((4, 1))),
+        (table(15), None),
+    ] {
+        let made = standing.outputs(choice);
+        assert!(rt; made.map(|outputs| (outputs.blocks, outputs.tables)) == wanted);
+    }
+}
+
+#[test]
+fn outputs_find_room(rt: HostRuntime) {
+    let levels = no_tables(&rt, rt.alloc());
+    let held = Slots::Free;
+    // All blocks of one gap. In two gaps of 5 blocks a table of 3 may begin at 3 blocks each, so 3 + 6 - 1 blocks find room. None of
+    // the tables has more blocks than all together.
+    for (gaps, free, blocks, largest, wanted) in [
+        (1, 10, 10, 3, true),
+        (1, 10, 11, 3, false),
+        (2, 5, 8, 3, true),
+        (2, 5, 9, 3, false),
+        (2, 5, 6, 6, false),
+        (2, 5, 5, 60, true),
+        (2, 5, u64::MAX, 5, false),
+    ] {
+        let extents = area_of(&rt, rt.alloc(), gaps, free);
+        let outputs = Outputs {
+            blocks,
+            largest,
+            tables: 1,
+        };
+        let found = standing(&levels, &extents, &held).has_room(outputs);
+        assert!(rt; found == wanted, "{gaps} {blocks} {largest}");
+    }
 }
 
 #[test]

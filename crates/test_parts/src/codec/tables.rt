@@ -1,7 +1,7 @@
 //! Entries, data blocks, indexes and footers.
 
 use crate::codec::texts::{are, bytes_of, flipped};
-use lsm_codec::{Edge, Entry, Footer, Index, VersionRef, encode_data_block, is_zero};
+use lsm_codec::{Edge, Entry, Footer, Gathered, Index, VersionRef, encode_data_block, is_zero};
 use std::alloc::Global;
 use std::process::Abort;
 
@@ -16,6 +16,13 @@ const PUT: VersionRef<'static> = VersionRef {
     key: b"a",
     number: 1,
     value: Some(b"1"),
+};
+
+/// Batch 2 deleted `bc`.
+const DELETE: VersionRef<'static> = VersionRef {
+    key: b"bc",
+    number: 2,
+    value: None,
 };
 
 /// The data block of its entry.
@@ -47,6 +54,32 @@ fn has_put(block: &[u8; 4_096]) -> bool {
 fn the_data_block_of_one_put(rt: HostRuntime) {
     let block = block_of_one(&rt, rt.alloc());
     assert!(rt; are(&block, DATA_BLOCK) && has_put(&block));
+}
+
+/// Whether the entry is of that version.
+fn is_of(entry: &Entry, version: VersionRef<'_>) -> bool {
+    entry.key() == version.key && entry.number() == version.number && entry.value() == version.value
+}
+
+/// Whether two versions that were gathered become their entries, and an entry that shares the memory of one outlives them.
+fn entries_share_memory<R: Abort>(rt: &R, alloc: Global) -> bool {
+    let mut gathered = Gathered::with_capacity(alloc, 2, 1).expect(rt, "memory");
+    gathered.push(PUT).expect(rt, "memory");
+    gathered.push(DELETE).expect(rt, "memory");
+    assert!(rt; gathered.bytes() == 4);
+    let entries = gathered.into_entries().expect(rt, "memory");
+    let [put, delete] = entries.as_slice() else {
+        return false;
+    };
+    let shared = put.share().expect(rt, "an entry");
+    let are_those = is_of(put, PUT) && is_of(delete, DELETE);
+    drop(entries);
+    are_those && is_of(&shared, PUT)
+}
+
+#[test]
+fn gathered_versions_become_entries(rt: HostRuntime) {
+    assert!(rt; entries_share_memory(&rt, rt.alloc()));
 }
 
 /// Whether an entry is read at the front of the bytes of the text.
