@@ -11,4 +11,5 @@ pub mod FewLaws
 pub mod DivisionLaws
 pub mod Steps
 pub mod Sameness
+pub mod SameBytes
 pub mod MapLaws

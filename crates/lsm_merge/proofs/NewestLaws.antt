@@ -1,19 +1,17 @@
 -- The newest version of a key among versions, and among these in order.
-use Rattle.std.proofs.Common.{◌≡◌, ℕ, ◌<◌, ◌≤◌, Bool, true, false, cond, ◌&&◌, ltb, leb, List, [], ◌∷◌, Option, Some, None, refl, ap, sym, ◌∙◌, arith}
-use Rattle.std.proofs.lemmas.Bool.{and_parts, cond_both, cond-true, cond-false, le-ltb, lt-ltb, ltb-true, ltb-false}
+use Rattle.std.proofs.Common.{◌≡◌, ℕ, ◌<◌, Bool, true, false, cond, ◌&&◌, ltb, leb, List, [], ◌∷◌, Option, Some, None, refl, ap, sym, ◌∙◌, arith}
+use Rattle.std.proofs.lemmas.Bool.{cond_both, ltb-true, ltb-false}
 use Rattle.std.specs.declared.cmp.Ordering.{Ordering}
 use Rattle.std.specs.declared.cmp.Ordering.TheVariants.{Less, Equal, Greater}
 use Rattle.std.specs.FinMap.Entries.{by_order}
 use Rattle.lsm_codec.specs.Keys.{Bytes}
 use Rattle.lsm_codec.specs.Versions.{Version, is_same_key, entry_order, newer_of, newest, is_version_of}
 use Rattle.lsm_mem.specs.EntryOrder.{placed}
-use Rattle.lsm_codec.proofs.KeyOrder.{is_lt_Less}
 use Rattle.lsm_mem.proofs.Batches.{tied_key, tied_number}
 use Rattle.lsm_merge.specs.Keeping.{in_order}
-use Rattle.lsm_mem.proofs.OrderTests.{is_in_order, in_order_cons, cons_in_order}
-use Rattle.lsm_mem.proofs.Orders.{older_number, cond_same}
+use Rattle.lsm_mem.proofs.Orders.{older_number}
 use Rattle.lsm_merge.proofs.Placing.{less_from_greater}
-use Rattle.lsm_mem.proofs.FirstLaws.{is_before_rest, not_newer, is_newer, is_version_of-key}
+use Rattle.lsm_mem.proofs.FirstLaws.{not_newer, is_newer, is_version_of-key}
 
 newer_tied : (v w : Version) (o : Option Version) → v.number ≡ w.number → newer_of v o ≡ newer_of v (Some (newer_of w o))
 newer_tied v w None e = sym (not_newer v w (omega arith))

@@ -11,7 +11,7 @@ use Rattle.lsm_mem.specs.EntryOrder.{placed}
 use Rattle.lsm_codec.proofs.KeyOrder.{is_lt_Less}
 use Rattle.lsm_merge.specs.Keeping.{all_placed}
 use Rattle.lsm_merge.specs.Loops.{shown, TakesFirst}
-use Rattle.lsm_mem.proofs.OrderTests.{is_before, is_in_order, entry_order_total, before_both, in_order_cons, cons_in_order, tested, ordered_tested}
+use Rattle.lsm_mem.proofs.OrderTests.{is_before, is_in_order, entry_order_total, in_order_cons, cons_in_order, tested, ordered_tested}
 use Rattle.lsm_mem.proofs.FirstLaws.{is_before_rest}
 
 pub less_from_greater : (x y : Version) → entry_order x y ≡ Greater → entry_order y x ≡ Less

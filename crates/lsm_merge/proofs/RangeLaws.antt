@@ -3,25 +3,24 @@ use Rattle.std.proofs.Common.{◌≡◌, ℕ, suc, zero, ◌<◌, ◌≤◌, Boo
 use Rattle.std.specs.Prelude.{is_none, is_some}
 use Rattle.std.specs.List.{list_any}
 use Rattle.std.specs.List.Sorted.{IsPartitionedBy, IsPartitionPoint}
-use Rattle.std.proofs.lemmas.Bool.{cond_both, cond-true, cond-false, not-true, not-false, false≢true}
+use Rattle.std.proofs.lemmas.Bool.{cond-true, cond-false, not-true, not-false, false≢true}
 use Rattle.std.specs.declared.cmp.Ordering.{Ordering}
 use Rattle.std.specs.declared.cmp.Ordering.TheVariants.{Less, Equal, Greater}
-use Rattle.std.specs.Ordering.{is_lt, is_le, ordering_then, nat_cmp}
+use Rattle.std.specs.Ordering.{is_lt, is_le, nat_cmp}
 use Rattle.std.specs.FinMap.Entries.{by_order}
 use Rattle.std.proofs.lemmas.Cmp.{nat_list_cmp_total, alike_right, tied_itself}
 use Rattle.lsm_codec.proofs.KeyOrder.{is_lt_Less, same_key}
 use Rattle.lsm_mem.proofs.Batches.{tied_key}
 use Rattle.lsm_merge.proofs.KeptLaws.{later, any_agree}
 use Rattle.lsm_codec.specs.Keys.{Bytes, byte_order}
-use Rattle.lsm_codec.specs.Versions.{Version, is_same_key, entry_order, newer_of, newest, is_version_of}
+use Rattle.lsm_codec.specs.Versions.{Version, is_same_key, entry_order}
 use Rattle.lsm_mem.specs.EntryOrder.{placed}
 use Rattle.lsm_mem.specs.Ranges.{is_version}
 use Rattle.lsm_merge.specs.Keeping.{in_order, is_newest_at_a_cut, kept_at, is_older_put, deletes_nothing, settled, keep}
-use Rattle.lsm_mem.proofs.OrderTests.{is_before, is_in_order, in_order_cons, cons_in_order}
+use Rattle.lsm_mem.proofs.OrderTests.{is_in_order, in_order_cons}
 use Rattle.lsm_merge.specs.Ranges.{is_from, is_until}
 use Rattle.lsm_merge.proofs.Placing.{placed_first, by_equal, by_greater, is_in_order-placed}
-use Rattle.lsm_mem.proofs.FirstLaws.{is_before_rest, is_before-filter, is_in_order-filter, newest-filter, then_le}
-use Rattle.lsm_mem.proofs.FirstLaws.{is_version_of-key}
+use Rattle.lsm_mem.proofs.FirstLaws.{is_before-filter, is_in_order-filter, newest-filter, then_le}
 
 -- a test of keys says the same of two versions with one place
 tested_tied : (test : Bytes → Bool) (v w : Version) → entry_order v w ≡ Equal → test v.key ≡ test w.key

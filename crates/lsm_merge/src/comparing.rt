@@ -3,6 +3,7 @@
 ghost use Rattle.std.specs.Prelude.{◌≡◌, IsTrue, ◌↔◌, option_map};
 ghost use Rattle.lsm_merge.specs.Inputs.{items_of};
 
+use byteorder::{BigEndian, ByteOrder};
 use lsm_codec::Entry;
 use std::alloc::Allocator;
 
@@ -13,10 +14,20 @@ pub(crate) fn are_same_flags(flag: bool, other: bool) -> bool
     flag == other
 }
 
+/// Whether these are the same bytes, which are compared eight at a time.
 fn are_same_bytes(bytes: &[u8], others: &[u8]) -> bool
     ensures { IsTrue result ↔ (bytes.now ≡ others.now) }
 {
-    bytes.cmp(others).is_eq()
+    if bytes.len() != others.len() {
+        return false;
+    }
+    let words = bytes.len() / 8;
+    for i in 0..words {
+        if BigEndian::read_u64(&bytes[8 * i..]) != BigEndian::read_u64(&others[8 * i..]) {
+            return false;
+        }
+    }
+    bytes[8 * words..].cmp(&others[8 * words..]).is_eq()
 }
 
 /// Whether both are `None`, or the same bytes.

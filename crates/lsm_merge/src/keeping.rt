@@ -60,7 +60,7 @@ pub(crate) fn newest_at_cuts<'a, A: Allocator>(
     requires { AreOrdered (shown versions.now) }
     ensures { IfOk result (λ v. shown v.items ≡ filter (is_newest_at_a_cut cuts.now (shown versions.now)) (shown versions.now)) }
 {
-    let mut kept = Vec::new(alloc);
+    let mut kept = Vec::with_capacity(alloc, versions.len())?;
     for i in 0..versions.len() {
         if is_newest_at_a_cut(versions, i, cuts) {
             kept.push(versions[i])?;

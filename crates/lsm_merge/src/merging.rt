@@ -59,7 +59,7 @@ pub(crate) fn referred<A: Allocator>(
 ) -> Result<Vec<&Entry<A>, A>, AllocError>
     ensures { IfOk result (λ v. shown v.items ≡ entries.now) }
 {
-    let mut all = Vec::new(alloc);
+    let mut all = Vec::with_capacity(alloc, entries.len())?;
     for entry in entries {
         all.push(entry)?;
     }

@@ -1,9 +1,8 @@
-use Rattle.std.proofs.Common.{◌≡◌, ◌∙◌, ◌++◌, ◌+◌, ◌∷◌, [], List, length, drop, ap, sym, subst, arith}
+use Rattle.std.proofs.Common.{◌≡◌, ◌+◌, ◌∷◌, [], List, drop, sym, subst}
 use Rattle.lsm_codec.specs.Keys.{Bytes}
 use Rattle.lsm_codec.specs.Versions.{Version}
-use Rattle.lsm_table.specs.Division.{IsInput, IsTables, TableBlocks}
-use Rattle.lsm_merge.specs.Divisions.{AreTablesAt, before}
-use Rattle.lsm_merge.specs.Ranges.{is_within}
+use Rattle.lsm_table.specs.Division.{IsTables}
+use Rattle.lsm_merge.specs.Divisions.{AreTablesAt}
 use Rattle.lsm_merge.proofs.DivisionLaws.{next_key, none_left, one_part_more, early_input, late_input}
 use Rattle.lsm_merge.proofs.dividing.divided.Goals as goal
 
