@@ -33,6 +33,6 @@ pub fn commit_on_a_mapping<'a>(
     let (mut store, _) = store.on(MappedDevice::new(image, journal, sectors));
     let number = store.commit(&batch);
     let (store, device) = store.on(parked);
-    let used = device.used(); // so many bytes of the journal are to be made
+    let used = device.used(); // this number of bytes of the journal are to be made
     (store, used)
 }
