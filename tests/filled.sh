@@ -23,3 +23,9 @@ echo "filled.sh: $(tail -n 1 "$room/counts"): $(cat "$room/said")"
     fail "test_hostile with other calls ends with $?"
 }
 echo "filled.sh: with other calls $(tail -n 1 "$room/counts"): $(cat "$room/said")"
+
+# Its free blocks lay apart, so that no run of level 0 found room below, and each put was refused until a compaction.
+"$test_hostile" stores 303791 1 1000 0 0 0 0 >"$room/said" 2>"$room/counts" || {
+    cat "$room/counts" "$room/said" >&2
+    fail "test_hostile with the store of seed 303791 ends with $?"
+}

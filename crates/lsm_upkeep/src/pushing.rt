@@ -14,15 +14,16 @@ const MOST_STEPS: u32 = 20_000;
 /// The most joins after the last step.
 const MOST_JOINS: u32 = 200;
 
-/// The most attempts at both: three for each step.
-const MOST_ATTEMPTS: u32 = 60_201;
+/// The most attempts at all: four for each step.
+const MOST_ATTEMPTS: u32 = 80_201;
 
 /// With more tables than this, neighbours are joined first.
 const MANY_TABLES: usize = 780;
 
 /// How far tables were brought down: steps down are taken until none is left, none can be taken, or what is demanded is admitted with
-/// blocks to spare. Where none can be taken neighbours are joined, and where there are many tables they are joined first. Where no step
-/// is left neighbours are joined as long as a level has many small tables.
+/// blocks to spare. Where none can be taken neighbours are joined, or else tables are brought into level 4, which moves them to other blocks
+/// and so may make room for the step. Where there are many tables neighbours are joined first, and where no step is left, as long as a level
+/// has many small tables.
 #[derive(Clone, Copy)]
 pub(crate) struct PushState {
     demand: Option<Demand>,
@@ -41,6 +42,8 @@ enum Last {
     Step,
     /// Neighbours were to be joined, since no step could be taken.
     JoinInstead,
+    /// A table was to be brought into the last of the levels, since no neighbours could be joined either.
+    Sink,
     /// Neighbours were to be joined after the last step, or are to be: this number of times up to now.
     JoinBehind(u32),
 }
@@ -76,7 +79,8 @@ impl PushState {
             (Last::JoinBefore, _) => self.attempt(Last::Step, Way::Down),
             (Last::Step, Went::ToTheEnd) => self.join_behind(0),
             (Last::Step, Went::Nowhere) => self.attempt(Last::JoinInstead, Way::Together),
-            (Last::JoinInstead | Last::JoinBehind(_), _) => None,
+            (Last::JoinInstead, _) => self.attempt(Last::Sink, Way::ToTheLast),
+            (Last::Sink | Last::JoinBehind(_), _) => None,
         }
     }
 
