@@ -6,8 +6,9 @@ ghost use Rattle.std.specs.Prelude.{◌≡◌, IfSome};
 use std::alloc::{AllocError, Allocator};
 use std::sync::atomic::{AtomicU64, Ordering};
 
-/// How often a thread that asks for a block looks whether the others have come: some milliseconds.
-const LOOKS: u32 = 2_000_000;
+/// How often a thread that asks for a block looks whether the others have come: some fifty milliseconds. A part of a merge takes few blocks,
+/// so on a busy machine each of them has to wait long enough.
+const LOOKS: u32 = 10_000_000;
 
 /// How often threads wait in vain before none waits any more.
 const WAITS: u64 = 100;
