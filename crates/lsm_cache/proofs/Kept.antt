@@ -42,6 +42,16 @@ module _ (place : BlockName → Option ℕ) (sectors : List (List ℕ)) (name : 
   pub still_fresh : (new : Cached) → out ≡ block_at sectors at → IsAsked name out c new → IsFresh place sectors new
   still_fresh new this after = All-asked (λ b. IfSome (place b.0) (λ n. b.1 ≡ block_at sectors n)) name out c new (rw stands this) fresh after
 
+  -- a block that is given is the one at its place: as it is kept, or else as it is read
+  pub given_fresh : IfSome (bytes_of name c) (λ kept. out ≡ kept) → (bytes_of name c ≡ None → out ≡ block_at sectors at) → out ≡ block_at sectors at
+  given_fresh kept read = (elim (bytes_of name c) as (λ o. bytes_of name c ≡ o → IfSome o (λ kept. out ≡ kept) → out ≡ block_at sectors at) [
+    | None ↦ λ is its. read is
+    | Some bytes ↦ λ is its. kept_fresh (is ∙ ap (λ b. Some b) (sym its))
+  ]) refl kept
+
+  pub given_still_fresh : (new : Cached) → IfSome (bytes_of name c) (λ kept. out ≡ kept) → (bytes_of name c ≡ None → out ≡ block_at sectors at) → IsAsked name out c new → IsFresh place sectors new
+  given_still_fresh new kept read after = still_fresh new (given_fresh kept read) after
+
 -- the numbers of tables stay below
 pub still_below : (number : ℕ) (name : BlockName) (out : List ℕ) (c new : Cached) → name.table < number → IsNumberedBelow number c → IsAsked name out c new → IsNumberedBelow number new
 still_below number name out c new low below after = All-asked (λ b. b.0.table < number) name out c new low below after

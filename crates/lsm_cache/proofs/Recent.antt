@@ -1,4 +1,4 @@
--- The list of an `LruCache` of blocks, seen without the boxes, is moved and cut as the recency list is.
+-- The list of an `LruCache` of blocks, seen without what shares them, is moved and cut as the recency list is.
 use Rattle.std.proofs.Common.{◌≡◌, ℕ, zero, suc, ◌+◌, ◌-◌, ◌<◌, ◌≤◌, Bool, true, false, not, List, [], ◌∷◌, map, take, length, Option, Some, None, refl, sym, ap, ◌∙◌, arith}
 use Rattle.std.proofs.lemmas.Bool.{and_parts, eqb-true}
 use Rattle.std.proofs.lemmas.List.{take_all, take-map}
@@ -6,7 +6,8 @@ use Rattle.std.proofs.Math.ListN.{length-map}
 use Rattle.std.specs.List.{filter, AllByRecursion, IsDistinct}
 use Rattle.std.specs.Option.{option_map}
 use Rattle.std.specs.Map.{keys_of, lookup, lookup_entry, remove_entry}
-use Rattle.std.specs.declared.boxed.Box.{Box}
+use Rattle.std.specs.Arc.{arc_value}
+use Rattle.std.specs.declared.sync.Arc.{Arc}
 use Rattle.lru.specs.LruCache.{LruCache, IsValid, promoted, put_entries}
 use Rattle.lsm_cache.specs.declared.name.BlockName.{BlockName}
 use Rattle.lsm_cache.specs.Recency.{Cached, is_same_block, bytes_of, asked, named_bytes}
@@ -25,27 +26,27 @@ same_name a b same =
 
 module _ {A : Type 0} (eq : BlockName → BlockName → Bool) (same : (a b : BlockName) → eq a b ≡ is_same_block a b) (name : BlockName) where
   -- what the cache finds
-  pub found : (es : List (BlockName × Box (List ℕ) A)) → lookup (is_same_block name) (map named_bytes es) ≡ option_map (λ b. b.value) (lookup (eq name) es)
+  pub found : (es : List (BlockName × Arc (List ℕ) A)) → lookup (is_same_block name) (map named_bytes es) ≡ option_map arc_value (lookup (eq name) es)
   found [] = refl
-  found (e ∷ es) = (elim (eq name e.0) as (λ y. eq name e.0 ≡ y → lookup (is_same_block name) (map named_bytes (e ∷ es)) ≡ option_map (λ b. b.value) (lookup (eq name) (e ∷ es))) [
+  found (e ∷ es) = (elim (eq name e.0) as (λ y. eq name e.0 ≡ y → lookup (is_same_block name) (map named_bytes (e ∷ es)) ≡ option_map arc_value (lookup (eq name) (e ∷ es))) [
     | true ↦ λ t. rw (sym (same name e.0), t) refl
     | false ↦ λ t. rw (sym (same name e.0), t) (found es)
   ]) refl
 
   -- where none has the name, all are others
-  pub all_others : (es : List (BlockName × Box (List ℕ) A)) → lookup (eq name) es ≡ None → others name (map named_bytes es) ≡ map named_bytes es
+  pub all_others : (es : List (BlockName × Arc (List ℕ) A)) → lookup (eq name) es ≡ None → others name (map named_bytes es) ≡ map named_bytes es
   all_others [] none = refl
   all_others (e ∷ es) none = (elim (eq name e.0) as (λ y. eq name e.0 ≡ y → others name (map named_bytes (e ∷ es)) ≡ map named_bytes (e ∷ es)) [
     | true ↦ λ t. let no : Some e.1 ≡ None = rw t at none in cc
     | false ↦ λ t. rw (sym (same name e.0), t) (ap (λ l. named_bytes e ∷ l) (all_others es (rw t at none)))
   ]) refl
 
-  none_after : (k : BlockName) → is_same_block name k ≡ true → (es : List (BlockName × Box (List ℕ) A)) → AllByRecursion (λ y. eq k y ≡ false) (keys_of es) → lookup (eq name) es ≡ None
+  none_after : (k : BlockName) → is_same_block name k ≡ true → (es : List (BlockName × Arc (List ℕ) A)) → AllByRecursion (λ y. eq k y ≡ false) (keys_of es) → lookup (eq name) es ≡ None
   none_after k is [] apart = refl
   none_after k is (e ∷ es) apart = rw (same_name name k is, apart.0) (none_after k is es apart.1)
 
   -- the others are all but the one that is found
-  pub the_others : (es : List (BlockName × Box (List ℕ) A)) → IsDistinct eq (keys_of es) → map named_bytes (remove_entry (eq name) es) ≡ others name (map named_bytes es)
+  pub the_others : (es : List (BlockName × Arc (List ℕ) A)) → IsDistinct eq (keys_of es) → map named_bytes (remove_entry (eq name) es) ≡ others name (map named_bytes es)
   unfolding IsDistinct
   the_others [] apart = refl
   the_others (e ∷ es) apart = (elim (eq name e.0) as (λ y. eq name e.0 ≡ y → map named_bytes (remove_entry (eq name) (e ∷ es)) ≡ others name (map named_bytes (e ∷ es))) [
@@ -53,7 +54,7 @@ module _ {A : Type 0} (eq : BlockName → BlockName → Bool) (same : (a b : Blo
     | false ↦ λ t. rw (sym (same name e.0), t) (ap (λ l. named_bytes e ∷ l) (the_others es apart.1))
   ]) refl
 
-  length_removed : (es : List (BlockName × Box (List ℕ) A)) (b : Box (List ℕ) A) → lookup (eq name) es ≡ Some b → length (remove_entry (eq name) es) + 1 ≡ length es
+  length_removed : (es : List (BlockName × Arc (List ℕ) A)) (b : Arc (List ℕ) A) → lookup (eq name) es ≡ Some b → length (remove_entry (eq name) es) + 1 ≡ length es
   length_removed [] b is = let no : None ≡ Some b = is in cc
   length_removed (e ∷ es) b is = (elim (eq name e.0) as (λ y. eq name e.0 ≡ y → length (remove_entry (eq name) (e ∷ es)) + 1 ≡ length (e ∷ es)) [
     | true ↦ λ t. rw t (omega arith)
@@ -61,7 +62,7 @@ module _ {A : Type 0} (eq : BlockName → BlockName → Bool) (same : (a b : Blo
   ]) refl
 
   -- the entry that is found has that very name
-  found_entry : (es : List (BlockName × Box (List ℕ) A)) (b : Box (List ℕ) A) → lookup (eq name) es ≡ Some b → lookup_entry (eq name) es ≡ Some (name, b)
+  found_entry : (es : List (BlockName × Arc (List ℕ) A)) (b : Arc (List ℕ) A) → lookup (eq name) es ≡ Some b → lookup_entry (eq name) es ≡ Some (name, b)
   found_entry [] b is = let no : None ≡ Some b = is in cc
   found_entry (e ∷ es) b is = (elim (eq name e.0) as (λ y. eq name e.0 ≡ y → lookup_entry (eq name) (e ∷ es) ≡ Some (name, b)) [
     | true ↦ λ t.
@@ -72,7 +73,7 @@ module _ {A : Type 0} (eq : BlockName → BlockName → Bool) (same : (a b : Blo
     | false ↦ λ t. rw t (found_entry es b (rw t at is))
   ]) refl
 
-  no_entry : (es : List (BlockName × Box (List ℕ) A)) → lookup (eq name) es ≡ None → lookup_entry (eq name) es ≡ None
+  no_entry : (es : List (BlockName × Arc (List ℕ) A)) → lookup (eq name) es ≡ None → lookup_entry (eq name) es ≡ None
   no_entry [] is = refl
   no_entry (e ∷ es) is = (elim (eq name e.0) as (λ y. eq name e.0 ≡ y → lookup_entry (eq name) (e ∷ es) ≡ None) [
     | true ↦ λ t. let no : Some e.1 ≡ None = rw t at is in cc
@@ -80,46 +81,46 @@ module _ {A : Type 0} (eq : BlockName → BlockName → Bool) (same : (a b : Blo
   ]) refl
 
   -- a block that is found goes to the front
-  pub moved : (c : LruCache BlockName (Box (List ℕ) A)) (b : Box (List ℕ) A) → IsValid eq c → lookup (eq name) c.entries ≡ Some b →
-      map named_bytes (promoted (eq name) c.entries) ≡ take c.cap ((name, b.value) ∷ others name (map named_bytes c.entries))
+  pub moved : (c : LruCache BlockName (Arc (List ℕ) A)) (b : Arc (List ℕ) A) → IsValid eq c → lookup (eq name) c.entries ≡ Some b →
+      map named_bytes (promoted (eq name) c.entries) ≡ take c.cap ((name, arc_value b) ∷ others name (map named_bytes c.entries))
   moved c b valid is =
       let entry = found_entry c.entries b is in
       let rest = the_others c.entries valid.0 in
       let size = length_removed c.entries b is in
-      let fits : length ((name, b.value) ∷ others name (map named_bytes c.entries)) ≤ c.cap = rw (← rest) (simp length-map (omega (arith, valid.1))) in
-      rw entry (ap (λ l. (name, b.value) ∷ l) rest ∙ sym (take_all c.cap ((name, b.value) ∷ others name (map named_bytes c.entries)) fits))
+      let fits : length ((name, arc_value b) ∷ others name (map named_bytes c.entries)) ≤ c.cap = rw (← rest) (simp length-map (omega (arith, valid.1))) in
+      rw entry (ap (λ l. (name, arc_value b) ∷ l) rest ∙ sym (take_all c.cap ((name, arc_value b) ∷ others name (map named_bytes c.entries)) fits))
 
   -- one that is put goes to the front too, and the last is evicted
-  pub entered : (c : LruCache BlockName (Box (List ℕ) A)) (b : Box (List ℕ) A) (cap : ℕ) → 0 < cap → lookup (eq name) c.entries ≡ None → c.cap ≡ cap →
-      map named_bytes (put_entries eq c name b) ≡ take cap ((name, b.value) ∷ others name (map named_bytes c.entries))
+  pub entered : (c : LruCache BlockName (Arc (List ℕ) A)) (b : Arc (List ℕ) A) (cap : ℕ) → 0 < cap → lookup (eq name) c.entries ≡ None → c.cap ≡ cap →
+      map named_bytes (put_entries eq c name b) ≡ take cap ((name, arc_value b) ∷ others name (map named_bytes c.entries))
   entered c b zero low none is = absurd (omega arith)
   entered c b (suc n) low none is =
       let one : suc n - 1 ≡ n = omega arith in
-      rw (no_entry c.entries none, is, one, all_others c.entries none) (ap (λ l. (name, b.value) ∷ l) (sym (take-map named_bytes n c.entries)))
+      rw (no_entry c.entries none, is, one, all_others c.entries none) (ap (λ l. (name, arc_value b) ∷ l) (sym (take-map named_bytes n c.entries)))
 
-  unmapped : (o : Option (Box (List ℕ) A)) → option_map (λ b. b.value) o ≡ None → o ≡ None
+  unmapped : (o : Option (Arc (List ℕ) A)) → option_map arc_value o ≡ None → o ≡ None
   unmapped None is = refl
-  unmapped (Some b) is = let no : Some b.value ≡ None = is in cc
+  unmapped (Some b) is = let no : Some (arc_value b) ≡ None = is in cc
 
-  pub unfound : (es : List (BlockName × Box (List ℕ) A)) → lookup (is_same_block name) (map named_bytes es) ≡ None → lookup (eq name) es ≡ None
+  pub unfound : (es : List (BlockName × Arc (List ℕ) A)) → lookup (is_same_block name) (map named_bytes es) ≡ None → lookup (eq name) es ≡ None
   unfound es none = unmapped (lookup (eq name) es) (sym (found es) ∙ none)
 
-  module _ (c : LruCache BlockName (Box (List ℕ) A)) (refusals : ℕ) where
+  module _ (c : LruCache BlockName (Arc (List ℕ) A)) (refusals : ℕ) where
     -- the cache, as a clause sees it
-    abbrev pub seen : List (BlockName × Box (List ℕ) A) → Cached
+    abbrev pub seen : List (BlockName × Arc (List ℕ) A) → Cached
     seen es = record { blocks = map named_bytes es; capacity = c.cap; refusals = refusals }
 
-    pub put_asked : (b : Box (List ℕ) A) (bytes : List ℕ) → b.value ≡ bytes → 0 < c.cap → bytes_of name (seen c.entries) ≡ None → seen (put_entries eq c name b) ≡ asked name bytes (seen c.entries)
+    pub put_asked : (b : Arc (List ℕ) A) (bytes : List ℕ) → arc_value b ≡ bytes → 0 < c.cap → bytes_of name (seen c.entries) ≡ None → seen (put_entries eq c name b) ≡ asked name bytes (seen c.entries)
     put_asked b bytes value low none =
         let list = entered c b c.cap low (unfound c.entries none) refl in
         rw (← value) (ap (λ (l : List (BlockName × List ℕ)). record { blocks = l; capacity = c.cap; refusals = refusals }) list)
 
-    pub found_asked : (b : Box (List ℕ) A) (bytes : List ℕ) → bytes ≡ b.value → IsValid eq c → Some b ≡ lookup (eq name) c.entries → seen (promoted (eq name) c.entries) ≡ asked name bytes (seen c.entries)
+    pub found_asked : (b : Arc (List ℕ) A) (bytes : List ℕ) → bytes ≡ arc_value b → IsValid eq c → Some b ≡ lookup (eq name) c.entries → seen (promoted (eq name) c.entries) ≡ asked name bytes (seen c.entries)
     found_asked b bytes value valid is =
         let list = moved c b valid (sym is) in
         rw value (ap (λ (l : List (BlockName × List ℕ)). record { blocks = l; capacity = c.cap; refusals = refusals }) list)
 
-    pub found_bytes : (b : Box (List ℕ) A) (bytes : List ℕ) → bytes ≡ b.value → Some b ≡ lookup (eq name) c.entries → bytes_of name (seen c.entries) ≡ Some bytes
+    pub found_bytes : (b : Arc (List ℕ) A) (bytes : List ℕ) → bytes ≡ arc_value b → Some b ≡ lookup (eq name) c.entries → bytes_of name (seen c.entries) ≡ Some bytes
     found_bytes b bytes value is = found c.entries ∙ rw (← is, value) refl
 
     pub none_bytes : None ≡ lookup (eq name) c.entries → bytes_of name (seen c.entries) ≡ None

@@ -1,7 +1,8 @@
 -- Which blocks a cache keeps, the last one asked for first.
-use Rattle.std.specs.Prelude.{◌≡◌, ◌⊎◌, ℕ, ◌+◌, ◌%◌, ◌^◌, Bool, not, is_some, ◌&&◌, ◌==◌, List, ◌∷◌, filter, take, Option, None, if◌then◌else◌}
+use Rattle.std.specs.Prelude.{◌≡◌, ◌⊎◌, ℕ, ◌+◌, ◌%◌, ◌^◌, Bool, not, is_some, ◌&&◌, ◌==◌, List, ◌∷◌, filter, take, Option, None, Some, if◌then◌else◌}
 use Rattle.std.specs.Map.{lookup}
-use Rattle.std.specs.declared.boxed.Box.{Box}
+use Rattle.std.specs.Arc.{arc_value}
+use Rattle.std.specs.declared.sync.Arc.{Arc}
 use Rattle.lsm_cache.specs.declared.name.BlockName.{BlockName}
 
 -- The blocks with their bytes, how many there may be, and how often memory for one was refused.
@@ -38,6 +39,11 @@ refused c = record c { refusals = (c.refusals + 1) % 2 ^ 64 }
 abbrev pub IsAsked : BlockName → List ℕ → Cached → Cached → Type 0
 IsAsked name bytes old new = (new ≡ asked name bytes old) ⊎ ((bytes_of name old ≡ None) × (new ≡ refused old))
 
--- a block as a clause sees it, without the box round its bytes
-abbrev pub named_bytes : {A : Type 0} → BlockName × Box (List ℕ) A → BlockName × List ℕ
-named_bytes e = (e.0, e.1.value)
+-- a block as a clause sees it, without what shares its bytes
+abbrev pub named_bytes : {A : Type 0} → BlockName × Arc (List ℕ) A → BlockName × List ℕ
+named_bytes e = (e.0, arc_value e.1)
+
+-- the bytes of a block that is kept, or others
+abbrev pub kept_or : {A : Type 0} → List ℕ → Option (Arc (List ℕ) A) → List ℕ
+kept_or own None = own
+kept_or own (Some kept) = arc_value kept

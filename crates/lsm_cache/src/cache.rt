@@ -12,18 +12,18 @@ ghost use Rattle.lsm_cache.specs.Fresh.{IsFresh, IsNumberedBelow};
 ghost use Rattle.lsm_cache.specs.declared.name.BlockName.{BlockName as Name};
 
 use crate::BlockName;
-use crate::read::read_block;
+use crate::block_bytes::BlockBytes;
 use lru::{DefaultHasher, LruCache};
 use lsm_device::{Device, Refusal};
 use std::alloc::{AllocError, Allocator, Global};
 use std::marker::Model;
 use std::num::NonZeroUsize;
+use std::sync::Arc;
 
-/// The blocks that were asked for last, with their bytes. Each block has memory of its own, which stays where it is while
-/// the block is kept.
+/// The blocks that were asked for last, with their bytes. Each block has memory of its own, which is shared with who asked for it.
 #[derive(Drop)]
 pub struct Cache<A: Allocator = Global> {
-    blocks: LruCache<BlockName, Box<[u8; 4_096], A>, DefaultHasher, A>,
+    blocks: LruCache<BlockName, Arc<[u8; 4_096], A>, DefaultHasher, A>,
     refusals: u64,
 }
 
@@ -100,12 +100,48 @@ impl<A: Allocator + Clone> Cache<A> {
         ensures same_size { (D.medium device.new).size ≡ (D.medium device.old).size }
         ensures same_lasting { (D.medium device.new).lasting ≡ (D.medium device.old).lasting }
     {
-        let name = BlockName { table, block };
+        let mut bytes = BlockBytes::new();
+        self.ask(BlockName { table, block }, sector, device, &mut bytes)?;
+        *out = *bytes.as_array();
+        Ok(())
+    }
+
+    /// As [`Cache::get`], but a block that is kept isn't copied: its bytes are shared.
+    pub fn ask<D: Device>(
+        &mut self,
+        name: BlockName,
+        sector: u32,
+        device: &mut D,
+        out: &mut BlockBytes<A>,
+    ) -> Result<(), Refusal>
+        requires { sector + 8 ≤ (D.medium device.old).size }
+
+        // A block that is kept is that of the cache, whatever the device holds, and any other is read from the device.
+        ensures kept { OnOk result (IfSome (bytes_of name self.old) (λ bytes. out.new ≡ bytes)) }
+        ensures read { IsTrue (D.medium device.old).lasting.tells → OnOk result (bytes_of name self.old ≡ None
+            → out.new ≡ block_at (seen (disk (D.medium device.old))) sector) }
+
+        // It is then the most recently used block, unless memory for it was refused.
+        ensures keeps { OnOk result (IsAsked name out.new self.old self.new) }
+        ensures stays { OnErr result (self.new ≡ self.old) }
+
+        // It fails only where a read faulted, its last call, of a block that isn't kept.
+        ensures refused { IfErr result (λ refusal. refusal ≡ Refusal.Io) }
+        ensures absent { OnErr result (bytes_of name self.old ≡ None) }
+        ensures faulted { OnErr result (FaultsAmong 8 (D.medium device.old).calls (D.medium device.new).calls) }
+
+        // A block that isn't kept is read, and nothing else is done to the device.
+        ensures counted { OnOk result
+            ((D.medium device.new).calls ≡ after_reads (sectors_read name self.old) (D.medium device.old).calls) }
+        ensures unchanged { IsTrue (D.medium device.old).lasting.tells → (D.medium device.new).history ≡ (D.medium device.old).history }
+        ensures same_size { (D.medium device.new).size ≡ (D.medium device.old).size }
+        ensures same_lasting { (D.medium device.new).lasting ≡ (D.medium device.old).lasting }
+    {
         if self.find(name, out) {
             return Ok(());
         }
-        read_block(device, sector, out)?;
-        self.keep(name, out);
+        out.read(device, sector)?;
+        self.keep(name, out.as_array());
         Ok(())
     }
 
@@ -116,8 +152,8 @@ impl<A: Allocator + Clone> Cache<A> {
         self.refusals
     }
 
-    /// Reads a block that is kept, which is then the most recently used one. Returns whether it is kept.
-    fn find(&mut self, name: BlockName, out: &mut [u8; 4_096]) -> bool
+    /// Shows a block that is kept, which is then the most recently used one. Returns whether it is kept.
+    fn find(&mut self, name: BlockName, out: &mut BlockBytes<A>) -> bool
         ensures found { OnTrue result (bytes_of name self.old ≡ Some out.new) }
         ensures keeps { OnTrue result (self.new ≡ asked name out.new self.old) }
         ensures absent { OnFalse result (bytes_of name self.old ≡ None) }
@@ -126,7 +162,7 @@ impl<A: Allocator + Clone> Cache<A> {
         // The cache has no name twice.
         prove!(self.blocks.len() <= self.blocks.cap().get());
         if let Some(bytes) = self.blocks.get(&name) {
-            *out = **bytes;
+            out.show(bytes);
             return true;
         }
         false
@@ -150,7 +186,7 @@ impl<A: Allocator + Clone> Cache<A> {
     {
         prove!(self.blocks.cap().get() > 0);
         let alloc = self.blocks.allocator().clone()?;
-        let block = Box::new(alloc, *bytes)?;
+        let block = Arc::new(alloc, *bytes)?;
         self.blocks.put(name, block)?;
         Ok(())
     }

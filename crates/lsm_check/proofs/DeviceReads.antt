@@ -1,7 +1,7 @@
 -- How a check reads a device.
 use Rattle.std.proofs.Common.{◌≡◌, ℕ, Bool, true, false, not, IsTrue, List, sym, ap, subst, ◌∙◌}
 use Rattle.lsm_cache.specs.Reads.{after_reads, FaultsAmong}
-use Rattle.lsm_cache.proofs.Counts.{reads_are, fault_is, one_fault, faults_made}
+use Rattle.lsm_device.proofs.RunCounts.{reads_are, fault_is, one_fault, faults_made}
 use Rattle.lsm_device.specs.Calls.{after_read}
 use Rattle.lsm_device.specs.declared.calls.Calls.{Calls}
 use Rattle.lsm_device.specs.Disk.{Disk, seen}

@@ -14,7 +14,7 @@ use Rattle.lsm_device.proofs.Counting.{none_made, AtMost-joined}
 use Rattle.lsm_codec.specs.Versions.{Version, AreOrdered}
 use Rattle.lsm_codec.specs.Entries.{entries_in}
 use Rattle.lsm_cache.specs.Reads.{block_at, after_reads, FaultsAmong}
-use Rattle.lsm_cache.proofs.Counts.{reads_are, fault_is, one_fault, faults_made}
+use Rattle.lsm_device.proofs.RunCounts.{reads_are, fault_is, one_fault, faults_made}
 use Rattle.lsm_levels.specs.Tables.{Table}
 use Rattle.lsm_levels.specs.Asking.{OnlyReads, sector_of}
 use Rattle.lsm_levels.specs.Stored.{blocks_from}

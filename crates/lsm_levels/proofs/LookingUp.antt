@@ -20,7 +20,7 @@ use Rattle.lsm_cache.specs.Recency.{bytes_of, sectors_read}
 use Rattle.lsm_cache.specs.Reads.{block_at}
 use Rattle.lsm_cache.specs.Fresh.{IsFresh, IsNumberedBelow}
 use Rattle.lsm_cache.proofs.Kept.{kept_fresh, still_fresh, still_below}
-use Rattle.lsm_cache.proofs.Counts.{reads_are, fault_is, one_fault, faults_made}
+use Rattle.lsm_device.proofs.RunCounts.{reads_are, fault_is, one_fault, faults_made}
 use Rattle.lsm_levels.specs.Tables.{Table}
 use Rattle.lsm_levels.specs.Asking.{Source, OnlyReads, IsGiven, Says, said, said_in, asked_of_run}
 use Rattle.lsm_levels.specs.Lookups.{EndsOr, LooksUp}

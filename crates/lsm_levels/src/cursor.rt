@@ -11,7 +11,7 @@ ghost use Rattle.lsm_levels.specs.Stored.{LiesWithin};
 use crate::blocks::Blocks;
 use crate::placed::PlacedBlock;
 use crate::run::Run;
-use lsm_cache::Cache;
+use lsm_cache::{BlockBytes, Cache};
 use lsm_codec::VersionRef;
 use lsm_device::{Device, Refusal};
 use lsm_table::{Entries, EntryPlace, EntrySpan};
@@ -58,13 +58,13 @@ fn entries_at<'b>(place: &EntryPlace, block: &'b [u8; 4_096]) -> Entries<'b>
     place.entries(block)
 }
 
-/// A cursor over a run, at a version or past the last. It keeps the bytes of one block, and lends the version out of them;
-/// blocks come through a cache. It keeps where the present entry lies, so that lending it reads nothing again. Contracts see
+/// A cursor over a run, at a version or past the last. It has the bytes of one block, shared with the cache, and lends the version out of
+/// them. It keeps where the present entry lies, so that lending it reads nothing again. Contracts see
 /// what is left of its block, the present entry first, and the blocks to come.
 #[derive(Drop)]
 pub(crate) struct RunCursor<'a, A: Allocator = Global> {
     blocks: Blocks<'a, A>,
-    bytes: Box<[u8; 4_096], A>,
+    bytes: Box<BlockBytes<A>, A>,
     place: EntryPlace,
     // Where the present entry lies, and the place after it.
     present: Option<(EntrySpan, EntryPlace)>,
@@ -89,8 +89,8 @@ impl<'a, A: Allocator> RunCursor<'a, A> {
     fn before(alloc: A, blocks: Blocks<'a, A>) -> Result<RunCursor<'a, A>, AllocError>
         ensures { IfOk result (λ c. c ≡ record { items = []; blocks = blocks.entry }) }
     {
-        let bytes = Box::new(alloc, [0; 4_096])?;
-        let place = EntryPlace::end(&bytes);
+        let bytes = Box::new(alloc, BlockBytes::new())?;
+        let place = EntryPlace::end(bytes.as_array());
         Ok(RunCursor {
             blocks,
             bytes,
@@ -104,7 +104,7 @@ impl<'a, A: Allocator> RunCursor<'a, A> {
         ensures { option_map shown result ≡ present self.now }
     {
         match &self.present {
-            Some((span, _behind)) => Some(span.entry(&self.bytes)),
+            Some((span, _behind)) => Some(span.entry(self.bytes.as_array())),
             None => None,
         }
     }
@@ -112,7 +112,7 @@ impl<'a, A: Allocator> RunCursor<'a, A> {
     fn has_item(&self) -> bool
         ensures { result ≡ has_item self.now.items }
     {
-        self.present.is_some() || has_item_at(&self.place, &self.bytes)
+        self.present.is_some() || has_item_at(&self.place, self.bytes.as_array())
     }
 
     /// Refuses bytes that are no entry.
@@ -121,7 +121,7 @@ impl<'a, A: Allocator> RunCursor<'a, A> {
         ensures bad { IfErr result (λ refusal. refusal ≡ BadTable) }
         ensures few { length self.now.items ≤ 4097 }
     {
-        let mut entries = entries_at(&self.place, &self.bytes);
+        let mut entries = entries_at(&self.place, self.bytes.as_array());
         if self.present.is_some() {
             return Ok(());
         }
@@ -137,17 +137,17 @@ impl<'a, A: Allocator> RunCursor<'a, A> {
     {
         self.place = match &self.present {
             Some((_span, behind)) => *behind,
-            None => self.place.next(&self.bytes),
+            None => self.place.next(self.bytes.as_array()),
         };
-        self.present = self.place.first_entry(&self.bytes);
+        self.present = self.place.first_entry(self.bytes.as_array());
     }
 
     /// Passes what stands in the block before a key.
     fn pass_up_to(&mut self, from: &[u8])
         ensures { self.new ≡ record { items = sought from.now self.old.items; blocks = self.old.blocks } }
     {
-        self.place = sought_place(&self.bytes, self.place, from);
-        self.present = self.place.first_entry(&self.bytes);
+        self.place = sought_place(self.bytes.as_array(), self.place, from);
+        self.present = self.place.first_entry(self.bytes.as_array());
     }
 
     /// Asks for a block, and stands at its first entry.
@@ -163,16 +163,9 @@ impl<'a, A: Allocator> RunCursor<'a, A> {
         ensures { Loads block self.old.blocks self.new (refusal_of result)
             (record { cache = cache.old; medium = D.medium device.old }) (record { cache = cache.new; medium = D.medium device.new }) }
     {
-        let name = block.name;
-        let given = cache.get(
-            name.table,
-            name.block,
-            block.sector,
-            device,
-            &mut self.bytes,
-        );
-        self.place = EntryPlace::first(&self.bytes);
-        self.present = self.place.first_entry(&self.bytes);
+        let given = cache.ask(block.name, block.sector, device, &mut self.bytes);
+        self.place = EntryPlace::first(self.bytes.as_array());
+        self.present = self.place.first_entry(self.bytes.as_array());
         given?;
         Ok(())
     }

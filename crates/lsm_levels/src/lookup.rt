@@ -14,7 +14,7 @@ use crate::found::copied;
 use crate::levels::Levels;
 use crate::reading::find_in_block;
 use crate::run::Run;
-use lsm_cache::Cache;
+use lsm_cache::{BlockBytes, Cache};
 use lsm_codec::Guard;
 use lsm_device::{Device, Refusal};
 use lsm_table::EntrySpan;
@@ -24,7 +24,7 @@ use std::alloc::Allocator;
 fn find_in_run<D: Device, A: Allocator + Clone>(
     run: &Run<A>,
     query: &Query<'_>,
-    bytes: &mut [u8; 4_096],
+    bytes: &mut BlockBytes<A>,
     cache: &mut Cache<A>,
     device: &mut D,
 ) -> Result<Option<EntrySpan>, Refusal>
@@ -35,20 +35,14 @@ fn find_in_run<D: Device, A: Allocator + Clone>(
     let Some(block) = asked_of_run(run, query) else {
         return Ok(None);
     };
-    cache.get(
-        block.name.table,
-        block.name.block,
-        block.sector,
-        device,
-        bytes,
-    )?;
-    Ok(find_in_block(bytes, query.key, query.at)?)
+    cache.ask(block.name, block.sector, device, bytes)?;
+    Ok(find_in_block(bytes.as_array(), query.key, query.at)?)
 }
 
 fn find_in_runs<D: Device, A: Allocator + Clone>(
     runs: &[Run<A>],
     query: &Query<'_>,
-    bytes: &mut [u8; 4_096],
+    bytes: &mut BlockBytes<A>,
     cache: &mut Cache<A>,
     device: &mut D,
 ) -> Result<Option<EntrySpan>, Refusal>
@@ -68,7 +62,7 @@ fn find_in_runs<D: Device, A: Allocator + Clone>(
 fn find_in_levels<D: Device, A: Allocator + Clone>(
     levels: &Levels<A>,
     query: &Query<'_>,
-    bytes: &mut [u8; 4_096],
+    bytes: &mut BlockBytes<A>,
     cache: &mut Cache<A>,
     device: &mut D,
 ) -> Result<Option<EntrySpan>, Refusal>
@@ -101,9 +95,9 @@ pub(crate) fn copy_from_levels<D: Device, A: Allocator + Clone>(
     ensures { CopiesOfRuns query.now.area query.now.key.now query.now.at (places levels.now) (answer_of result)
         (record { cache = cache.old; medium = D.medium device.old }) (record { cache = cache.new; medium = D.medium device.new }) }
 {
-    let mut bytes = [0; 4_096];
+    let mut bytes = BlockBytes::new();
     let found = find_in_levels(levels, query, &mut bytes, cache, device)?;
-    copied(alloc, value_at(&bytes, found))
+    copied(alloc, value_at(bytes.as_array(), found))
 }
 
 /// Whether what the runs of the levels say of a key meets a guard, compared where it lies.
@@ -118,7 +112,7 @@ pub(crate) fn test_in_levels<D: Device, A: Allocator + Clone>(
     ensures { TestsRuns query.now.area query.now.key.now query.now.at (places levels.now) guard.now result
         (record { cache = cache.old; medium = D.medium device.old }) (record { cache = cache.new; medium = D.medium device.new }) }
 {
-    let mut bytes = [0; 4_096];
+    let mut bytes = BlockBytes::new();
     let found = find_in_levels(levels, query, &mut bytes, cache, device)?;
-    Ok(guard.is_met_by(value_at(&bytes, found)))
+    Ok(guard.is_met_by(value_at(bytes.as_array(), found)))
 }

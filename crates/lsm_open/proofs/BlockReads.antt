@@ -4,7 +4,7 @@ use Rattle.std.specs.List.{flat_map, concat}
 use Rattle.std.proofs.lemmas.Grind.{flat_map-append}
 use Rattle.std.proofs.lemmas.List.{drop-drop, drop-take, take-take, append-nil}
 use Rattle.lsm_cache.specs.Reads.{block_at, after_reads, FaultsAmong}
-use Rattle.lsm_cache.proofs.Counts.{reads_are, fault_is, one_fault, faults_made}
+use Rattle.lsm_device.proofs.RunCounts.{reads_are, fault_is, one_fault, faults_made}
 use Rattle.lsm_device.specs.Areas.{area}
 use Rattle.lsm_device.specs.Calls.{faults_after}
 use Rattle.lsm_device.specs.Medium.{Medium}

@@ -15,5 +15,5 @@ pub returns : goal.returns
 returns g c = record {
   found = spanned_in c.find_in_levels.new.bytes (Ok c.in_ok-found.found);
   looks = c.in_ok-found.ensures;
-  copies = subst (λ (v : Option Bytes). Copies v (answer_of c.copied.result)) c.value_at.ensures c.copied.ensures;
+  copies = subst (λ (v : Option Bytes). Copies v (answer_of c.copied.result)) (rw c.as_array.ensures at c.value_at.ensures) c.copied.ensures;
 }

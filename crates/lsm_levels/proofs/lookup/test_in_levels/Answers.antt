@@ -15,5 +15,5 @@ pub returns : goal.returns
 returns g c = record {
   found = spanned_in c.find_in_levels.new.bytes (Ok c.in_ok-found.found);
   looks = c.in_ok-found.ensures;
-  tells = ap (λ b. Ok b) (c.is_met_by.ensures ∙ ap (λ (v : Option Bytes). is_same_value v c.args.guard.now.value) c.value_at.ensures);
+  tells = ap (λ b. Ok b) (c.is_met_by.ensures ∙ ap (λ (v : Option Bytes). is_same_value v c.args.guard.now.value) (rw c.as_array.ensures at c.value_at.ensures));
 }

@@ -5,13 +5,13 @@ use Rattle.lsm_cache.proofs.cache.Cache.find.Goals as goal
 pub returns-in-Some-clause-found : goal.returns-in-Some-clause-found
 returns-in-Some-clause-found g c =
     let kept = c.self.inside in
-    rw (← c.self.view_is) (found_bytes _ (λ a b. refl) c.args.name kept.blocks kept.refusals c.in-Some.bytes.now c.deref.result.now c.deref.ensures c.in-Some.ensures.value)
+    rw (← c.self.view_is) (found_bytes _ (λ a b. refl) c.args.name kept.blocks kept.refusals c.in-Some.bytes.now c.show.new.self c.show.ensures c.in-Some.ensures.value)
 
 pub returns-in-Some-clause-keeps : goal.returns-in-Some-clause-keeps
 returns-in-Some-clause-keeps g c =
     let kept = c.self.inside in
     rw (c.get-2.follows.holds-at-none, ← c.self.view_is)
-    (found_asked _ (λ a b. refl) c.args.name kept.blocks kept.refusals c.in-Some.bytes.now c.deref.result.now c.deref.ensures c.len.ensures.valid c.in-Some.ensures.value)
+    (found_asked _ (λ a b. refl) c.args.name kept.blocks kept.refusals c.in-Some.bytes.now c.show.new.self c.show.ensures c.len.ensures.valid c.in-Some.ensures.value)
 
 pub returns-in-Some-clause-absent : goal.returns-in-Some-clause-absent
 returns-in-Some-clause-absent g c = tt
