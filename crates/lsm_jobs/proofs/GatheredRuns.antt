@@ -14,7 +14,7 @@ use Rattle.lsm_table.proofs.Items.{Item}
 use Rattle.lsm_jobs.specs.Numbers.{Inputs, merge_of}
 use Rattle.lsm_jobs.specs.Slots.{Slot, Reading}
 use Rattle.lsm_jobs.specs.Taking.{slot_with}
-use Rattle.lsm_jobs.specs.Gathering.{Gathered, none_gathered, input_ahead, blocks_left, data_blocks, ends_run, with_first, ascending_runs, run_length, items_between, runs_ahead, fronts, GoesOn, IsLonger, RunsGoOn}
+use Rattle.lsm_jobs.specs.Gathering.{ReadSoFar, none_gathered, input_ahead, blocks_left, data_blocks, ends_run, with_first, ascending_runs, run_length, items_between, runs_ahead, fronts, GoesOn, IsLonger, RunsGoOn}
 use Rattle.lsm_jobs.proofs.GoingOn.{first_ordered, taken_back}
 
 -- ---- the runs of tables
@@ -103,14 +103,14 @@ none_ahead (run ∷ runs) =
     ap (λ (n : ℕ). versions_of run ∷ runs_ahead n runs (map blank runs)) none ∙ ap (λ (l : List (List Version)). versions_of run ∷ l) (none_ahead runs)
 
 -- so is a merge taken
-pub merge_taken : (number level : ℕ) (upper lower tables : List Table) (cuts : List ℕ) (bottom : Bool) (m : Inputs) (g : Gathered) → m ≡ record { level = level; upper = upper; lower = lower } → tables ≡ inputs (merge_of m) → g ≡ none_gathered tables cuts bottom
+pub merge_taken : (number level : ℕ) (upper lower tables : List Table) (cuts : List ℕ) (bottom : Bool) (m : Inputs) (g : ReadSoFar) → m ≡ record { level = level; upper = upper; lower = lower } → tables ≡ inputs (merge_of m) → g ≡ none_gathered tables cuts bottom
     → record { number = number; job = merge_of m; input = input_ahead (inputs (merge_of m)) g; stage = Reading (blocks_left (inputs (merge_of m)) g) } ≡ slot_with number [] cuts bottom (Merge level upper lower)
 merge_taken number level upper lower tables cuts bottom m g is all none =
     let ts = upper ++ lower in
     let these : tables ≡ ts = all ∙ ap (λ (i : Inputs). inputs (merge_of i)) is in
     let nothing : g ≡ none_gathered ts cuts bottom = none ∙ ap (λ (l : List Table). none_gathered l cuts bottom) these in
     let count : data_blocks ts - 0 ≡ data_blocks ts = omega arith in
-    let slot : Inputs → Gathered → Slot = λ i h. record { number = number; job = merge_of i; input = input_ahead (inputs (merge_of i)) h; stage = Reading (blocks_left (inputs (merge_of i)) h) } in
+    let slot : Inputs → ReadSoFar → Slot = λ i h. record { number = number; job = merge_of i; input = input_ahead (inputs (merge_of i)) h; stage = Reading (blocks_left (inputs (merge_of i)) h) } in
     let with_runs : List (List Version) → ℕ → Slot = λ runs n. record { number = number; job = Merge level upper lower; input = record { runs = runs; cuts = cuts; bottom = bottom }; stage = Reading n } in
     ap (λ (i : Inputs). slot i g) is
     ∙ ap (slot (record { level = level; upper = upper; lower = lower })) nothing

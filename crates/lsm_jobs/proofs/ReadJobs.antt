@@ -12,7 +12,7 @@ use Rattle.lsm_levels.specs.Stored.{LiesWithin, is_within}
 use Rattle.lsm_levels.specs.Tables.{Table}
 use Rattle.lsm_levels.specs.Pick.{Job, inputs}
 use Rattle.lsm_jobs.specs.Slots.{Slot, Slots, JobSlots, Reading}
-use Rattle.lsm_jobs.specs.Gathering.{Gathered, ascending_runs, input_ahead, blocks_left, AllGoOn}
+use Rattle.lsm_jobs.specs.Gathering.{ReadSoFar, ascending_runs, input_ahead, blocks_left, AllGoOn}
 use Rattle.lsm_jobs.specs.Reading.{SlotReadsOn, IsBadNext, JobReadsOn}
 use Rattle.lsm_jobs.specs.Holding.{IsAt}
 use Rattle.lsm_levels.proofs.WithinLaws.{within-Decides}
@@ -55,8 +55,8 @@ job_stays job place old lifted new slot held now (Err e) at there out back same 
     ∙ ap (these old.next) (ap (λ (s : Slot). set old.slots place (Some s)) same ∙ set_again old.slots place (Some held) at.within (sym there))
 
 -- where what is gathered doesn't go on, neither does the slot that shows it
-pub slot_bad : (area : ℕ) (m : Medium) (number : ℕ) (job : Job) (g : Gathered) (tables : List Table) (slot : Slot) → tables ≡ inputs job → length g.runs ≡ length (ascending_runs (inputs job))
-    → record { number = number; job = job; input = input_ahead (inputs job) g; stage = Reading (blocks_left (inputs job) g) } ≡ slot → AreRuns g.runs → ((after : Gathered) → AllGoOn (seen (disk m)) area tables g after → ⊥) → IsBadNext area m slot
+pub slot_bad : (area : ℕ) (m : Medium) (number : ℕ) (job : Job) (g : ReadSoFar) (tables : List Table) (slot : Slot) → tables ≡ inputs job → length g.runs ≡ length (ascending_runs (inputs job))
+    → record { number = number; job = job; input = input_ahead (inputs job) g; stage = Reading (blocks_left (inputs job) g) } ≡ slot → AreRuns g.runs → ((after : ReadSoFar) → AllGoOn (seen (disk m)) area tables g after → ⊥) → IsBadNext area m slot
 slot_bad area m number job g tables slot same count view ordered none = subst (λ (s : Slot). IsBadNext area m s) view (record {
   before = g;
   shows = record { count = count; input = refl; stage = refl };

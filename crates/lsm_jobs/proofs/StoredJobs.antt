@@ -13,7 +13,7 @@ use Rattle.lsm_levels.specs.Tables.{Table}
 use Rattle.lsm_levels.specs.Levels.{all_tables}
 use Rattle.lsm_levels.specs.Pick.{inputs}
 use Rattle.lsm_levels.specs.Stored.{IsStored}
-use Rattle.lsm_jobs.specs.Gathering.{Gathered, ascending_runs, data_blocks, versions_behind, runs_ahead, input_ahead, blocks_left, next_done, IsNext, RunsGoOn, AllGoOn}
+use Rattle.lsm_jobs.specs.Gathering.{ReadSoFar, ascending_runs, data_blocks, versions_behind, runs_ahead, input_ahead, blocks_left, next_done, IsNext, RunsGoOn, AllGoOn}
 use Rattle.lsm_jobs.specs.Slots.{Stage, Slot, with_held, left_at, is_reading}
 use Rattle.lsm_jobs.specs.Reading.{SlotReadsOn, input_with, stage_with}
 use Rattle.lsm_jobs.specs.StoredJobs.{HasStored, StoredReadingLaw, NeverBadLaw}
@@ -79,7 +79,7 @@ module _ (sectors : List (List ℕ)) (area : ℕ) where
       let rest = all_go_on runs stand.1 (from - data_blocks run) (to - data_blocks run) old (omega (arith, count)) ordered.1 in
       (first.0 ∷ rest.0, (first.1, rest.1))
 
-  module _ (tables : List Table) (stand : AllByRecursion (IsStored sectors area) tables) (old new : Gathered) (next : IsNext tables old new) (goes : AllGoOn sectors area tables old new) where
+  module _ (tables : List Table) (stand : AllByRecursion (IsStored sectors area) tables) (old new : ReadSoFar) (next : IsNext tables old new) (goes : AllGoOn sectors area tables old new) where
     their_blocks : data_blocks (all_tables (ascending_runs tables)) ≡ data_blocks tables
     their_blocks = ap data_blocks (tables_of_runs tables)
 

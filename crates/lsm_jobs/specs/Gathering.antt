@@ -80,18 +80,18 @@ versions_behind (suc d) (t ∷ rest) = if ltb (suc d) (length t.outline.edges) t
 
 -- What was read of a merge so far: the entries of each run of its tables, from the first `done` data blocks; with the cuts of
 -- its taking, and its bottom flag.
-pub record Gathered : Type 0 where
+pub record ReadSoFar : Type 0 where
   pub runs : List (List Version)
   pub done : ℕ
   pub cuts : List ℕ
   pub bottom : Bool
 
 -- nothing is read yet of these tables
-abbrev pub none_gathered : List Table → List ℕ → Bool → Gathered
+abbrev pub none_gathered : List Table → List ℕ → Bool → ReadSoFar
 none_gathered tables cuts bottom = record { runs = map (λ run. []) (ascending_runs tables); done = 0; cuts = cuts; bottom = bottom }
 
 -- the input that what was read is
-abbrev pub whole_input : Gathered → MergeInput
+abbrev pub whole_input : ReadSoFar → MergeInput
 whole_input g = record { runs = g.runs; cuts = g.cuts; bottom = g.bottom }
 
 -- runs, each followed by what the versions of its tables say of their data blocks, where the first d of all are passed
@@ -101,11 +101,11 @@ runs_ahead d (tables ∷ rest) [] = []
 runs_ahead d (tables ∷ rest) (run ∷ runs) = (run ++ versions_behind d tables) ∷ runs_ahead (d - data_blocks tables) rest runs
 
 -- the input that it will be: what was read, followed by what the versions of the tables say of the blocks that are left
-abbrev pub input_ahead : List Table → Gathered → MergeInput
+abbrev pub input_ahead : List Table → ReadSoFar → MergeInput
 input_ahead tables g = whole_input (record g { runs = runs_ahead g.done (ascending_runs tables) g.runs })
 
 -- how many data blocks are left
-abbrev pub blocks_left : List Table → Gathered → ℕ
+abbrev pub blocks_left : List Table → ReadSoFar → ℕ
 blocks_left tables g = data_blocks tables - g.done
 
 -- what the data blocks of tables spell, those from one place on up to another
@@ -120,15 +120,15 @@ RunsGoOn sectors area from to (tables ∷ rest) (run ∷ runs) (new ∷ news) = 
 RunsGoOn sectors area from to others runs news = ⊥
 
 -- how many data blocks are read after a step: eight more, or all
-abbrev pub next_done : List Table → Gathered → ℕ
+abbrev pub next_done : List Table → ReadSoFar → ℕ
 next_done tables g = min (data_blocks tables) (g.done + 8)
 
 -- Each run goes on with what the data blocks of a step spell.
-abbrev pub AllGoOn : List (List ℕ) → ℕ → List Table → Gathered → Gathered → Type 0
+abbrev pub AllGoOn : List (List ℕ) → ℕ → List Table → ReadSoFar → ReadSoFar → Type 0
 AllGoOn sectors area tables old new = RunsGoOn sectors area old.done (next_done tables old) (ascending_runs tables) old.runs new.runs
 
 -- What is gathered after a step has as many runs.
-pub record IsNext (tables : List Table) (old new : Gathered) : Type 0 where
+pub record IsNext (tables : List Table) (old new : ReadSoFar) : Type 0 where
   pub done : new.done ≡ next_done tables old
   pub same_count : length new.runs ≡ length old.runs
   pub same_cuts : new.cuts ≡ old.cuts
@@ -141,7 +141,7 @@ fronts (n ∷ counts) [] = []
 fronts (n ∷ counts) (run ∷ runs) = take n run ∷ fronts counts runs
 
 -- With some entries more in each run, or none.
-pub record IsGrown (old new : Gathered) : Type 0 where
+pub record IsGrown (old new : ReadSoFar) : Type 0 where
   pub same_count : length new.runs ≡ length old.runs
   pub runs : fronts (map length old.runs) new.runs ≡ old.runs
   pub same_cuts : new.cuts ≡ old.cuts

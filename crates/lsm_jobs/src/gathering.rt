@@ -9,7 +9,7 @@ ghost use Rattle.lsm_device.specs.Medium.{disk};
 ghost use Rattle.lsm_device.specs.Refusals.{faultless};
 ghost use Rattle.lsm_merge.specs.Inputs.{AreRuns, IsCuts};
 ghost use Rattle.lsm_levels.specs.Stored.{LiesWithin};
-ghost use Rattle.lsm_jobs.specs.Gathering.{Gathered, ReadsBlocks, ascending_runs, fronts, none_gathered, whole_input, blocks_left, IsNext, AllGoOn, IsGrown};
+ghost use Rattle.lsm_jobs.specs.Gathering.{ReadSoFar, ReadsBlocks, ascending_runs, fronts, none_gathered, whole_input, blocks_left, IsNext, AllGoOn, IsGrown};
 ghost use Rattle.lsm_jobs.specs.Reading.{ReadsOn};
 ghost use Rattle.lsm_jobs.specs.declared.held.Work.TheVariants.{Reading};
 
@@ -39,9 +39,9 @@ pub(crate) struct Gathering<A: Allocator> {
 
 impl<A: Allocator> Model for Gathering<A> {
     ghost use Rattle.lsm_merge.specs.Inputs.{AreRuns, IsCuts, items_of};
-    ghost use Rattle.lsm_jobs.specs.Gathering.{Gathered};
+    ghost use Rattle.lsm_jobs.specs.Gathering.{ReadSoFar};
 
-    ghost Value = { Gathered };
+    ghost Value = { ReadSoFar };
 
     ghost view = { λ g. record { runs = items_of g.runs.items; done = g.done; cuts = g.cuts.items; bottom = g.bottom } };
 
@@ -84,7 +84,7 @@ impl<A: Allocator + Clone> Gathering<A> {
         ensures left { IfOk result (λ left. left ≡ blocks_left tables.now self.new) }
         ensures goes_on { IsTrue (D.medium device.old).lasting.tells → OnOk result
             (AllGoOn (seen (disk (D.medium device.old))) area tables.now self.old self.new) }
-        ensures bad { IsTrue (D.medium device.old).lasting.tells → result ≡ Err BadTable → (new : Gathered)
+        ensures bad { IsTrue (D.medium device.old).lasting.tells → result ≡ Err BadTable → (new : ReadSoFar)
             → AllGoOn (seen (disk (D.medium device.old))) area tables.now self.old new → ⊥ }
         ensures grown { IsGrown self.old self.new }
         ensures refused { IfErr result (λ refusal. (refusal ≡ Io) ⊎ ((refusal ≡ BadTable) ⊎ (refusal ≡ NoMemory))) }
@@ -160,7 +160,7 @@ impl<A: Allocator + Clone> Gathering<A> {
         requires count { length self.runs ≡ length (ascending_runs tables.now) }
         requires within { AllByRecursion (LiesWithin (D.medium device.old).size area) tables.now }
         ensures reads { IfOk result.1 (λ left. ReadsOn area (D.medium device.old) tables.now left self result.0) }
-        ensures bad { IsTrue (D.medium device.old).lasting.tells → result.1 ≡ Err BadTable → (new : Gathered)
+        ensures bad { IsTrue (D.medium device.old).lasting.tells → result.1 ≡ Err BadTable → (new : ReadSoFar)
             → AllGoOn (seen (disk (D.medium device.old))) area tables.now self new → ⊥ }
         ensures ordered { AreRuns self.runs }
         ensures unchanged { OnErr result.1 (result.0 ≡ Reading self) }

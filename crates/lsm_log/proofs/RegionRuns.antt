@@ -5,16 +5,16 @@ use Rattle.std.proofs.lemmas.List.{take-append-drop, drop_all}
 use Rattle.lsm_device.specs.Areas.{area}
 use Rattle.lsm_device.specs.Runs.{pieces}
 use Rattle.lsm_device.proofs.Pieces.{count_of, length-pieces}
-use Rattle.lsm_log.specs.declared.gathered.Gathered.{Gathered}
+use Rattle.lsm_log.specs.declared.read_batches.ReadBatches.{ReadBatches}
 use Rattle.lsm_log.proofs.Gathering.{next_sector}
-use Rattle.lsm_log.specs.Gathered.{batches_with, awaited_in, HaveTaken}
+use Rattle.lsm_log.specs.ReadSoFar.{batches_with, awaited_in, HaveTaken}
 
 -- How far a region is read: its first k sectors are, and each was awaited.
-pub record HasRead {A : Type 0} (k : ℕ) (sectors : List (List ℕ)) (old new : Gathered A) : Type 0 where
+pub record HasRead {A : Type 0} (k : ℕ) (sectors : List (List ℕ)) (old new : ReadBatches A) : Type 0 where
   pub batches : batches_with new (drop k sectors) ≡ batches_with old sectors
   pub awaited : k + awaited_in new (drop k sectors) ≡ awaited_in old sectors
 
-pub read_none : {A : Type 0} (sectors : List (List ℕ)) (old : Gathered A) → HasRead 0 sectors old old
+pub read_none : {A : Type 0} (sectors : List (List ℕ)) (old : ReadBatches A) → HasRead 0 sectors old old
 read_none sectors old = record { batches = refl; awaited = omega arith }
 
 behind_part : (from count : ℕ) (sectors part : List (List ℕ)) → part ≡ take count (drop from sectors) → drop from sectors ≡ part ++ drop (from + count) sectors
@@ -23,7 +23,7 @@ behind_part from count sectors part is =
     ∙ ap (λ (l : List (List ℕ)). l ++ drop count (drop from sectors)) (sym is)
     ∙ ap (λ (l : List (List ℕ)). part ++ l) (drop-drop count from sectors)
 
-module _ {A : Type 0} (sectors part : List (List ℕ)) (k from count : ℕ) (same : k ≡ from) (is : part ≡ take count (drop from sectors)) (old mid new : Gathered A) (so_far : HasRead k sectors old mid) where
+module _ {A : Type 0} (sectors part : List (List ℕ)) (k from count : ℕ) (same : k ≡ from) (is : part ≡ take count (drop from sectors)) (old mid new : ReadBatches A) (so_far : HasRead k sectors old mid) where
   here : HasRead from sectors old mid
   here = subst (λ (n : ℕ). HasRead n sectors old mid) same so_far
 
@@ -44,7 +44,7 @@ module _ {A : Type 0} (sectors part : List (List ℕ)) (k from count : ℕ) (sam
   read_ends taken = taken (drop (from + count) sectors) ∙ ap (batches_with mid) (sym next) ∙ here.batches
 
 -- all of the region is read
-pub read_all : {A : Type 0} (sectors : List (List ℕ)) (k : ℕ) (old new : Gathered A) → length sectors ≤ k → HasRead k sectors old new → new.batches.items ≡ batches_with old sectors
+pub read_all : {A : Type 0} (sectors : List (List ℕ)) (k : ℕ) (old new : ReadBatches A) → length sectors ≤ k → HasRead k sectors old new → new.batches.items ≡ batches_with old sectors
 read_all sectors k old new all so_far =
     sym (append-nil new.batches.items) ∙ ap (batches_with new) (sym (drop_all k sectors all)) ∙ so_far.batches
 

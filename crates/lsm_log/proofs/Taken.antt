@@ -1,10 +1,10 @@
 -- Sectors that a replay takes one after the other.
 use Rattle.std.proofs.Common.{◌≡◌, ◌<◌, ◌≤◌, ℕ, ◌+◌, List, [], ◌∷◌, ◌++◌, length, length-append, get_or, take, drop, true, false, refl, sym, ◌∙◌, ap, arith, append_assoc, subst}
 use Rattle.std.proofs.lemmas.List.{take_all, take_more, take-append-drop, drop_more}
-use Rattle.lsm_log.specs.declared.gathered.Gathered.{Gathered}
-use Rattle.lsm_log.specs.Gathered.{batches_with, awaited_in, HasTaken, HaveTaken}
+use Rattle.lsm_log.specs.declared.read_batches.ReadBatches.{ReadBatches}
+use Rattle.lsm_log.specs.ReadSoFar.{batches_with, awaited_in, HasTaken, HaveTaken}
 
-module _ {A : Type 0} (sectors : List (List ℕ)) (sector : List ℕ) (i : ℕ) (lt : i < length sectors) (is : sector ≡ get_or sectors i []) (old mid new : Gathered A) (so_far : HaveTaken true (take i sectors) old mid) where
+module _ {A : Type 0} (sectors : List (List ℕ)) (sector : List ℕ) (i : ℕ) (lt : i < length sectors) (is : sector ≡ get_or sectors i []) (old mid new : ReadBatches A) (so_far : HaveTaken true (take i sectors) old mid) where
   split : take (i + 1) sectors ≡ take i sectors ++ sector ∷ []
   split = take_more sectors i [] lt ∙ ap (λ (s : List ℕ). take i sectors ++ s ∷ []) (sym is)
 
@@ -31,9 +31,9 @@ module _ {A : Type 0} (sectors : List (List ℕ)) (sector : List ℕ) (i : ℕ) 
       ∙ ap (batches_with old) (sym (ap (λ (l : List (List ℕ)). l ++ rest) all_split ∙ append_assoc (take i sectors) (sector ∷ drop (i + 1) sectors) rest))
 
 -- none is taken yet
-pub takes_none : {A : Type 0} (sectors : List (List ℕ)) (old : Gathered A) → HaveTaken true (take 0 sectors) old old
+pub takes_none : {A : Type 0} (sectors : List (List ℕ)) (old : ReadBatches A) → HaveTaken true (take 0 sectors) old old
 takes_none sectors old rest = (refl, omega arith)
 
 -- all are
-pub takes_all : {A : Type 0} (sectors : List (List ℕ)) (i : ℕ) (old new : Gathered A) → length sectors ≤ i → HaveTaken true (take i sectors) old new → HaveTaken true sectors old new
+pub takes_all : {A : Type 0} (sectors : List (List ℕ)) (i : ℕ) (old new : ReadBatches A) → length sectors ≤ i → HaveTaken true (take i sectors) old new → HaveTaken true sectors old new
 takes_all {A} sectors i old new all so_far = subst (λ (l : List (List ℕ)). HaveTaken true l old new) (take_all i sectors all) so_far

@@ -3,13 +3,13 @@ use Rattle.std.proofs.Common.{◌≡◌, ℕ, ◌+◌, ◌++◌, Bool, true, fal
 use Rattle.lsm_codec.specs.BatchText.{batch_of}
 use Rattle.lsm_codec.specs.LogSectors.{Part, part_of}
 use Rattle.lsm_codec.specs.Map.{Operation}
-use Rattle.lsm_log.specs.declared.gathered.Gathered.{Gathered}
-use Rattle.lsm_log.specs.Gathered.{HasEnded, HasTaken}
+use Rattle.lsm_log.specs.declared.read_batches.ReadBatches.{ReadBatches}
+use Rattle.lsm_log.specs.ReadSoFar.{HasEnded, HasTaken}
 use Rattle.lsm_log.specs.Replay.{map_while, is_awaited, texts_from, awaited_from}
 use Rattle.lsm_log.proofs.Gathering.{ends_no_batch, taken_batch}
 
 -- the last part of a batch was taken
-pub taken_last : {A : Type 0} (old mid new : Gathered A) (sector : List ℕ) (p : Part) → part_of sector ≡ Some p → is_awaited old.epoch old.number old.part old.parts p ≡ true → p.part + 1 ≡ p.parts
+pub taken_last : {A : Type 0} (old mid new : ReadBatches A) (sector : List ℕ) (p : Part) → part_of sector ≡ Some p → is_awaited old.epoch old.number old.part old.parts p ≡ true → p.part + 1 ≡ p.parts
     → mid.text.items ≡ old.text.items ++ p.payload → mid.batches.items ≡ old.batches.items → mid.epoch ≡ old.epoch → mid.number ≡ old.number → (ended : Bool) → HasEnded ended mid new → HasTaken ended sector old new
 taken_last old mid new sector p found next last text batches epoch number true is = λ rest.
     let some : batch_of (old.text.items ++ p.payload) ≡ Some is.batch = ap batch_of (sym text) ∙ is.is in

@@ -2,4 +2,4 @@ pub mod Replay
 pub mod Batches
 pub mod Longest
 pub mod Opened
-pub mod Gathered
+pub mod ReadSoFar

@@ -4,8 +4,8 @@
 #![tactic(auto)]
 
 mod append;
-mod gathered;
 mod log;
+mod read_batches;
 mod reading;
 mod region;
 

@@ -7,12 +7,12 @@ ghost use Rattle.lsm_device.specs.Disk.{seen};
 ghost use Rattle.lsm_device.specs.Medium.{disk};
 ghost use Rattle.lsm_device.specs.Refusals.{faultless};
 ghost use Rattle.lsm_device.specs.Runs.{pieces};
-ghost use Rattle.lsm_log.specs.Gathered.{batches_with, awaited_in, HasEnded, HasTaken, HaveTaken};
+ghost use Rattle.lsm_log.specs.ReadSoFar.{batches_with, awaited_in, HasEnded, HasTaken, HaveTaken};
 ghost use Rattle.lsm_log.specs.Longest.{IsLongest};
 ghost use Rattle.lsm_log.specs.Opened.{AreNumbers};
 ghost use Rattle.lsm_log.specs.Replay.{is_awaited as is_awaited_part, awaited, replay as replay_of};
 
-use crate::gathered::Gathered;
+use crate::read_batches::ReadBatches;
 use lsm_codec::{Batch, LogSector};
 use lsm_device::{Device, Refusal, piece};
 use std::alloc::{AllocError, Allocator};
@@ -24,7 +24,7 @@ const RUN_SECTORS: u32 = 16;
 
 const RUN_BYTES: usize = 8_192;
 
-impl<A: Allocator + Clone> Gathered<A> {
+impl<A: Allocator + Clone> ReadBatches<A> {
     fn is_awaited(&self, sector: &LogSector) -> bool
         ensures { result ≡ is_awaited_part self.now.epoch self.now.number self.now.part self.now.parts (lent_part sector.now) }
     {
@@ -34,12 +34,12 @@ impl<A: Allocator + Clone> Gathered<A> {
     }
 
     // No batch is read yet, and the first part of the first batch is awaited.
-    fn new(alloc: &A, epoch: u64, first: u64) -> Result<Gathered<A>, AllocError>
+    fn new(alloc: &A, epoch: u64, first: u64) -> Result<ReadBatches<A>, AllocError>
         ensures begins { IfOk result (λ g. (sectors : List (List ℕ)) → (batches_with g sectors ≡ replay_of epoch first sectors)
             × (awaited_in g sectors ≡ awaited epoch first sectors)) }
         ensures first { IfOk result (λ g. g.first ≡ first) }
     {
-        Ok(Gathered {
+        Ok(ReadBatches {
             epoch,
             first,
             batches: Vec::new(alloc.clone()?),
@@ -172,7 +172,7 @@ pub fn replay<D: Device, A: Allocator + Clone>(
     ensures same_size { (D.medium device.new).size ≡ (D.medium device.old).size }
     ensures same_lasting { (D.medium device.new).lasting ≡ (D.medium device.old).lasting }
 {
-    let mut gathered = Gathered::new(&alloc, epoch, first)?;
+    let mut gathered = ReadBatches::new(&alloc, epoch, first)?;
     gathered.read_region(&alloc, device, start, sectors)?;
     Ok(gathered.batches)
 }

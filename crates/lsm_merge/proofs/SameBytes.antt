@@ -1,7 +1,6 @@
 -- Bytes that are compared eight at a time.
-use Rattle.std.proofs.Common.{◌≡◌, ℕ, ◌+◌, ◌-◌, ◌≤◌, ◌<◌, Bool, false, List, ◌++◌, length, get_or, take, drop, ap, sym, subst, ◌∙◌, arith}
+use Rattle.std.proofs.Common.{◌≡◌, ℕ, ◌+◌, ◌-◌, ◌≤◌, ◌<◌, Bool, List, ◌++◌, length, get_or, take, drop, ap, sym, subst, ◌∙◌, arith}
 use Rattle.std.proofs.Math.Seq.{take-add}
-use Rattle.std.proofs.lemmas.Bool.{false≢true}
 use Rattle.std.proofs.lemmas.List.{take-append-drop, take_all, length-drop, get_or-drop}
 use Rattle.byteorder.specs.Endian.{big_bytes, big_number}
 use Rattle.lsm_codec.proofs.Numbers.{big_bytes-of_number}
@@ -27,10 +26,6 @@ eight_more a b n fit_a fit_b inside long same so =
     ∙ ap (λ (l : List ℕ). l ++ take 8 (drop n a)) so
     ∙ ap (λ (l : List ℕ). take n b ++ l) (sym (eight a n fit_a inside) ∙ ap (big_bytes 8) same ∙ eight b n fit_b (omega arith))
     ∙ sym (take-add n 8 b)
-
--- eight differ
-pub eight_differ : (a b : List ℕ) (n : ℕ) → (big_number 8 (drop n a) ≡ big_number 8 (drop n b) → ⊥) → Tells false a b
-eight_differ a b n other = (λ no. absurd (false≢true no), λ same. absurd (other (ap (λ (l : List ℕ). big_number 8 (drop n l)) same)))
 
 -- the rest decides
 pub rest_told : (a b : List ℕ) (n : ℕ) (r : Bool) → take n a ≡ take n b → Tells r (drop n a) (drop n b) → Tells r a b

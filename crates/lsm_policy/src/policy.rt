@@ -1,6 +1,6 @@
 //! What to merge next.
 
-ghost use Rattle.std.specs.Prelude.{◌≡◌, ◌*◌, ◌||◌, ◌&&◌, ltb, nat_le, true, IfSome};
+ghost use Rattle.std.specs.Prelude.{◌≡◌, ◌*◌, ◌<◌, ◌||◌, ◌&&◌, ltb, nat_le, true, IfSome};
 ghost use Rattle.lsm_levels.specs.Moving.{table_count};
 ghost use Rattle.lsm_policy.specs.Room.{fits, taken_blocks};
 
@@ -9,20 +9,27 @@ use crate::room::{fits, has_at_most, takes_at_most};
 use lsm_levels::{Choice, HeldJobs, Levels, Run};
 use std::alloc::Allocator;
 
-/// A level's limit is at most this part of all blocks.
-const PART: u64 = 8;
+/// The limits of levels 1 to 3 are at most these parts of all blocks: an eighth, a half, and all. So a small store needs fewer levels.
+const PARTS: [u64; 3] = [8, 2, 1];
 
-/// But it is at least this number of blocks.
+/// But each is at least this number of blocks.
 const LEAST_LIMIT: u64 = 16;
+
+/// Runs of level 0 that take at least this part of all blocks go down where there are [`FEW_RUNS`].
+const LARGE_PART: u64 = 24;
+
+/// The runs of level 0 from which on they go down where they are large.
+const FEW_RUNS: usize = 3;
 
 /// The numbers by which merges are chosen. [`Policy::new`] has good ones.
 #[derive(Clone, Copy, Debug)]
 pub struct Policy {
-    /// From this number of runs on the runs of level 0 are merged down, as many at once as take in no more blocks than are free. A
-    /// higher number writes less, and leaves more places for a look-up or a scan to ask. From four runs on the store's `job_take` takes
-    /// the oldest alone, so a caller that uses it too sets fewer.
+    /// From this number of runs on the runs of level 0 are merged down, as many at once as take in no more blocks than are free; from
+    /// three on where they take a twenty-fourth of all blocks. A higher number writes less, and leaves more places for a look-up or a scan
+    /// to ask.
     pub runs: usize,
-    /// The limits of levels 1 to 3, in blocks. If an eighth of all blocks is less, that is the limit of a level.
+    /// The limits of levels 1 to 3, in blocks. A level has no more than an eighth of all blocks in level 1, and than half of them in
+    /// level 2.
     pub limits: [u64; 3],
     /// The most blocks that a merge of several neighbours, or several runs, takes in.
     pub most_blocks: u64,
@@ -45,17 +52,17 @@ impl Default for Policy {
 }
 
 impl Policy {
-    /// Three runs; limits of 224, 1,400 and 8,192 blocks; 1,024 blocks; 768 tables; two blocks for each that is free.
+    /// Six runs; limits of 448, 2,800 and 16,384 blocks; 1,024 blocks; 768 tables; two blocks for each that is free.
     ///
-    /// Runs and limits are below those of the store's `job_take`: once all that is chosen is done, it takes no merge but of a table that is
-    /// mostly deletes.
+    /// The store's `job_take` has rules of its own, by which smaller levels go down: from four runs on, and from 256 and 2,048 blocks. So
+    /// a caller that uses both merges more than by one of them.
     pub fn new() -> Policy
         ensures tables { result.most_tables ≡ 768 }
         ensures room { result.taken_for_each_free ≡ 2 }
     {
         Policy {
-            runs: 3,
-            limits: [224, 1_400, 8_192],
+            runs: 6,
+            limits: [448, 2_800, 16_384],
             most_blocks: 1_024,
             most_tables: 768,
             taken_for_each_free: 2,
@@ -82,8 +89,8 @@ impl Policy {
     /// The merge to choose next, with `free_blocks` blocks free and the slots held by these jobs: the first of these that exists,
     /// may be taken, and takes in no more blocks than are free.
     ///
-    /// 1. From [`runs`](Policy::runs) on all runs of level 0; or the most of the oldest ones that take in no more blocks than are
-    ///    free, nor, if they are several, than [`most_blocks`](Policy::most_blocks).
+    /// 1. From [`runs`](Policy::runs) on, or from three on if they are large, all runs of level 0; or the most of the oldest ones that
+    ///    take in no more blocks than are free, nor, if they are several, than [`most_blocks`](Policy::most_blocks).
     /// 2. Of the least level from 1 to 3 that is over its limit: the neighbours that go down for the fewest blocks of the next level
     ///    a block of their own. If room is scarce those with the oldest table. Of equal ones the widest. Several tables go only where
     ///    no other merge is held.
@@ -117,34 +124,56 @@ impl Policy {
         bounds: Bounds,
         held: &H,
     ) -> Option<Choice> {
-        if let Some(choice) = runs_of(levels, self.runs, bounds, held) {
+        let area = area_of(levels, bounds.room);
+        if let Some(choice) = runs_of(levels, self.least_runs(levels, area), bounds, held) {
             return Some(choice);
         }
         let [level_1, level_2, level_3, level_4] = levels.deeper() else {
             return None;
         };
-        let most = (area_of(levels, bounds.room) / PART).max(LEAST_LIMIT);
         let [limit_1, limit_2, limit_3] = self.limits;
-        if let Some(choice) = tables_of(level_1, level_2, limit_1.min(most), bounds, held) {
+        let [part_1, part_2, part_3] = PARTS;
+        let limit_1 = limit_1.min(part_of(area, part_1));
+        if let Some(choice) = tables_of(level_1, level_2, limit_1, bounds, held) {
             return Some(choice);
         }
-        if let Some(choice) = tables_of(level_2, level_3, limit_2.min(most), bounds, held) {
+        let limit_2 = limit_2.min(part_of(area, part_2));
+        if let Some(choice) = tables_of(level_2, level_3, limit_2, bounds, held) {
             return Some(choice);
         }
-        tables_of(level_3, level_4, limit_3.min(most), bounds, held)
+        let limit_3 = limit_3.min(part_of(area, part_3));
+        tables_of(level_3, level_4, limit_3, bounds, held)
     }
+
+    /// From how many runs on those of level 0 go down, in an area of so many blocks.
+    fn least_runs<A: Allocator>(&self, levels: &Levels<A>, area: u64) -> usize {
+        if blocks_of_runs(levels.runs()) >= area / LARGE_PART {
+            return self.runs.min(FEW_RUNS);
+        }
+        self.runs
+    }
+}
+
+/// A part of an area, or the least limit.
+fn part_of(area: u64, part: u64) -> u64
+    requires { 0 < part }
+{
+    (area / part).max(LEAST_LIMIT)
+}
+
+/// The blocks of the tables of runs.
+fn blocks_of_runs<A: Allocator>(runs: &[Run<A>]) -> u64 {
+    let mut blocks: u64 = 0;
+    for run in runs {
+        blocks = blocks.saturating_add(blocks_of(run.tables()));
+    }
+    blocks
 }
 
 /// The blocks of all tables, with those that are free.
 fn area_of<A: Allocator>(levels: &Levels<A>, room: u64) -> u64 {
-    let mut blocks = room;
-    for run in levels.runs() {
-        blocks = blocks.saturating_add(blocks_of(run.tables()));
-    }
-    for run in levels.deeper() {
-        blocks = blocks.saturating_add(blocks_of(run.tables()));
-    }
-    blocks
+    room.saturating_add(blocks_of_runs(levels.runs()))
+        .saturating_add(blocks_of_runs(levels.deeper()))
 }
 
 /// The most of the oldest runs of level 0 that may go down and find room, where there are at least `least` runs.

@@ -13,7 +13,7 @@ use Rattle.lsm_levels.specs.Levels.{Levels, all_tables, places}
 use Rattle.lsm_levels.specs.Pick.{Job, Flush, Merge, inputs, is_flush}
 use Rattle.lsm_levels.specs.Stored.{LiesWithin, AreWithin, AreStored, IsStored}
 use Rattle.lsm_levels.specs.Tables.{Table}
-use Rattle.lsm_jobs.specs.Gathering.{Gathered}
+use Rattle.lsm_jobs.specs.Gathering.{ReadSoFar}
 use Rattle.lsm_jobs.specs.Keeping.{AreKept}
 use Rattle.lsm_jobs.specs.Reading.{CanBeRead, JobCanBeRead, JobReadsOn, SlotReadsOn, input_with}
 use Rattle.lsm_jobs.specs.Outputs.{placed_blocks}
@@ -140,7 +140,7 @@ job_can_be_read size area job w js runs kept within few = record { is = by }
         let taken_in = (install_counts w job slot runs held).taken_in in
         record { few = omega (arith, taken_in, few); within = jobs_have (LiesWithin size area) w.levels slot.input.bottom slot.job within held }
 
-same_flag : (left : ℕ) (tables : List Table) (g : Gathered) → (input_with left tables g).bottom ≡ g.bottom
+same_flag : (left : ℕ) (tables : List Table) (g : ReadSoFar) → (input_with left tables g).bottom ≡ g.bottom
 same_flag zero tables g = refl
 same_flag (suc left) tables g = refl
 

@@ -9,14 +9,14 @@ use std::alloc::{AllocError, Global};
 const MOST: usize = 2_048;
 
 /// Operations of one batch, and the batch.
-pub(crate) struct Gathered {
+pub(crate) struct Collected {
     pub batch: Batch,
     pub deeds: Vec<Deed>,
 }
 
-impl Drop for Gathered {
+impl Drop for Collected {
     fn drop(self) {
-        let Gathered { batch: _, deeds: _ } = self;
+        let Collected { batch: _, deeds: _ } = self;
     }
 }
 
@@ -144,15 +144,15 @@ impl Book {
     }
 
     /// A batch of one operation.
-    pub fn one(&self, deed: Deed) -> Result<Gathered, Refusal> {
+    pub fn one(&self, deed: Deed) -> Result<Collected, Refusal> {
         let mut deeds = Vec::new(self.alloc);
         deeds.push(deed)?;
         let batch = Batch::new(self.alloc, self.op(deed)?)?;
-        Ok(Gathered { batch, deeds })
+        Ok(Collected { batch, deeds })
     }
 
     /// Adds an operation to a batch. Returns whether there was room in the batch.
-    pub fn add(&self, gathered: &mut Gathered, deed: Deed) -> Result<bool, Refusal> {
+    pub fn add(&self, gathered: &mut Collected, deed: Deed) -> Result<bool, Refusal> {
         match self.append(&mut gathered.batch, deed) {
             Ok(()) => {
                 gathered.deeds.push(deed)?;

@@ -1,6 +1,6 @@
 //! Calls of a store, one of which fails at its device.
 
-use crate::book::{Gathered, has_put};
+use crate::book::{Collected, has_put};
 use crate::calls::{drawn_range, drawn_value};
 use crate::comparing::Asked;
 use crate::draws::Draws;
@@ -91,7 +91,7 @@ fn risk_read(subject: &mut Subject, asked: Asked) -> Result<bool, Trouble> {
 fn risk_write(
     subject: &mut Subject,
     pending: &mut Pending,
-    gathered: &Gathered,
+    gathered: &Collected,
 ) -> Result<bool, Trouble> {
     let told = subject.db.write(&gathered.batch);
     hear(subject, pending, told, gathered)
@@ -119,7 +119,7 @@ fn hear(
     subject: &mut Subject,
     pending: &mut Pending,
     told: Result<u64, Refusal>,
-    gathered: &Gathered,
+    gathered: &Collected,
 ) -> Result<bool, Trouble> {
     match told {
         Ok(_) => {

@@ -1,6 +1,6 @@
 //! Stores of whose device calls fail.
 
-use crate::book::Gathered;
+use crate::book::Collected;
 use crate::calls::Calls;
 use crate::opening::Failure;
 use crate::risking::risk_all;
@@ -12,7 +12,7 @@ use crate::trouble::Trouble;
 const TURNS: u32 = 12;
 
 /// The next batch: of two one deletes a row, and one is of a stream.
-fn next_batch(subject: &Subject, stream: &mut Stream, turn: u32) -> Result<Gathered, Trouble> {
+fn next_batch(subject: &Subject, stream: &mut Stream, turn: u32) -> Result<Collected, Trouble> {
     if turn % 2 == 0 {
         return Ok(subject.delete_of(stream.key())?);
     }
@@ -21,7 +21,7 @@ fn next_batch(subject: &Subject, stream: &mut Stream, turn: u32) -> Result<Gathe
 
 /// Makes batches and syncs each, and merges all tables down after every fourth, until a call fails. Returns the batch that a crash may
 /// leave or not; `None` where no write and no sync failed.
-fn risked(subject: &mut Subject, stream: &mut Stream) -> Result<Option<Gathered>, Trouble> {
+fn risked(subject: &mut Subject, stream: &mut Stream) -> Result<Option<Collected>, Trouble> {
     for turn in 0..TURNS {
         let gathered = next_batch(subject, stream, turn)?;
         if let Went::Unsure = subject.risk(&gathered)? {

@@ -1,6 +1,6 @@
 //! A store, and what it is to hold.
 
-use crate::book::{Book, Gathered, has_put};
+use crate::book::{Book, Collected, has_put};
 use crate::comparing::{Asked, compare};
 use crate::draws::Draws;
 use crate::opening::{Failure, armed, begun, crashed, opened, synced};
@@ -114,7 +114,7 @@ impl Subject {
     }
 
     /// The next batch of a stream.
-    pub fn gathered(&self, stream: &mut Stream) -> Result<Gathered, Trouble> {
+    pub fn gathered(&self, stream: &mut Stream) -> Result<Collected, Trouble> {
         let mut gathered = self.book.one(stream.next()?)?;
         for _ in 1..stream.length() {
             let deed = stream.next()?;
@@ -126,7 +126,7 @@ impl Subject {
         Ok(gathered)
     }
 
-    fn all(&self, deeds: &[Deed]) -> Result<Gathered, Trouble> {
+    fn all(&self, deeds: &[Deed]) -> Result<Collected, Trouble> {
         let [first, rest @ ..] = deeds else {
             return Err(Trouble::Call(Refusal::BadKey));
         };
@@ -153,7 +153,7 @@ impl Subject {
         }
     }
 
-    fn commit(&mut self, gathered: &Gathered) -> Result<Went, Trouble> {
+    fn commit(&mut self, gathered: &Collected) -> Result<Went, Trouble> {
         let told = self.db.write(&gathered.batch);
         self.hear(told, &gathered.deeds)
     }
@@ -180,7 +180,7 @@ impl Subject {
     }
 
     /// Commits a batch and syncs it, where a call of the device may fail.
-    pub fn risk(&mut self, gathered: &Gathered) -> Result<Went, Trouble> {
+    pub fn risk(&mut self, gathered: &Collected) -> Result<Went, Trouble> {
         match self.db.write(&gathered.batch) {
             Ok(_) => Ok(self.sync_risked(&gathered.deeds)),
             Err(Refusal::Io | Refusal::Stopped) => Ok(Went::Unsure),
@@ -198,7 +198,7 @@ impl Subject {
     }
 
     /// A batch that deletes the first key from a number on.
-    pub fn delete_of(&self, from: u32) -> Result<Gathered, Refusal> {
+    pub fn delete_of(&self, from: u32) -> Result<Collected, Refusal> {
         let key = self.book.next_number(from).unwrap_or(from);
         self.book.one(Deed { key, value: None })
     }
@@ -214,7 +214,7 @@ impl Subject {
     }
 
     /// Compares all rows, where the last batch, if one is given, is there or not.
-    pub fn settle(&mut self, last: Option<Gathered>) -> Result<(), Trouble> {
+    pub fn settle(&mut self, last: Option<Collected>) -> Result<(), Trouble> {
         match last {
             Some(gathered) => self.compare_with(&gathered.deeds),
             None => self.compare(),

@@ -11,9 +11,9 @@ use Rattle.lsm_device.specs.Memory.{length-written}
 use Rattle.lsm_device.specs.Runs.{pieces}
 use Rattle.lsm_device.proofs.Counting.{read_made, AtMost-joined}
 use Rattle.lsm_device.proofs.RunCounts.{reads_are, faults_made}
-use Rattle.lsm_log.specs.Gathered.{HaveTaken}
+use Rattle.lsm_log.specs.ReadSoFar.{HaveTaken}
 use Rattle.lsm_log.proofs.RegionRuns.{read_more, read_ends, one_read, one_long}
-use Rattle.lsm_log.proofs.gathered.Gathered.read_region.Goals as goal
+use Rattle.lsm_log.proofs.read_batches.ReadBatches.read_region.Goals as goal
 
 pub returns-in_err-read-clause-calls : goal.returns-in_err-read-clause-calls
 returns-in_err-read-clause-calls g c =

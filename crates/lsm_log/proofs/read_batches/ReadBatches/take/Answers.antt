@@ -2,7 +2,7 @@ use Rattle.std.proofs.Common.{[], refl, sym, arith}
 use Rattle.lsm_codec.specs.LogSectors.{lent_part}
 use Rattle.lsm_log.proofs.Gathering.{ends_no_part, ends_other, number_is, taken_more}
 use Rattle.lsm_log.proofs.Taking.{taken_last}
-use Rattle.lsm_log.proofs.gathered.Gathered.take.Goals as goal
+use Rattle.lsm_log.proofs.read_batches.ReadBatches.take.Goals as goal
 
 pub returns-in_default-clause-taken : goal.returns-in_default-clause-taken
 returns-in_default-clause-taken g c = λ rest.

@@ -1,8 +1,8 @@
 use Rattle.std.proofs.Common.{◌≡◌, ◌/◌, length, take}
 use Rattle.lsm_device.specs.Runs.{pieces}
-use Rattle.lsm_log.specs.Gathered.{HaveTaken}
+use Rattle.lsm_log.specs.ReadSoFar.{HaveTaken}
 use Rattle.std.specs.Prelude.{true}
-use Rattle.lsm_log.proofs.gathered.Gathered.take_run.Given as goal
+use Rattle.lsm_log.proofs.read_batches.ReadBatches.take_run.Given as goal
 
 abbrev pub invariant-loop-i : goal.invariant-loop-i
 invariant-loop-i g l =

@@ -4,7 +4,7 @@ use Rattle.lsm_device.specs.Calls.{AtMost}
 use Rattle.lsm_device.specs.Disk.{seen}
 use Rattle.lsm_device.specs.Medium.{disk}
 use Rattle.lsm_log.proofs.RegionRuns.{HasRead}
-use Rattle.lsm_log.proofs.gathered.Gathered.read_region.Given as goal
+use Rattle.lsm_log.proofs.read_batches.ReadBatches.read_region.Given as goal
 
 abbrev pub invariant-loop-done : goal.invariant-loop-done
 invariant-loop-done g l =

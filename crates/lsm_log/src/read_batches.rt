@@ -6,7 +6,7 @@ use std::alloc::Allocator;
 
 /// The batches read so far, from the first on, and the parts that are read of the next one.
 #[derive(Drop)]
-pub(crate) struct Gathered<A: Allocator> {
+pub(crate) struct ReadBatches<A: Allocator> {
     pub(crate) epoch: u64,
     pub(crate) first: u64,
     pub(crate) batches: Vec<Batch<A>, A>,

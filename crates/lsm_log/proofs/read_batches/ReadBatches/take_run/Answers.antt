@@ -1,9 +1,9 @@
 use Rattle.std.proofs.Common.{◌/◌, ◌∙◌, length, arith, refl, subst, Bool}
 use Rattle.lsm_device.specs.Runs.{pieces}
 use Rattle.lsm_device.proofs.Pieces.{piece_at, length-pieces}
-use Rattle.lsm_log.specs.Gathered.{HasTaken}
+use Rattle.lsm_log.specs.ReadSoFar.{HasTaken}
 use Rattle.lsm_log.proofs.Taken.{takes_none, takes_one_more, takes_no_more, takes_all}
-use Rattle.lsm_log.proofs.gathered.Gathered.take_run.Goals as goal
+use Rattle.lsm_log.proofs.read_batches.ReadBatches.take_run.Goals as goal
 
 pub loop-i-init : goal.loop-i-init
 loop-i-init g c = record { same_first = refl; so_far = takes_none (pieces (length c.args.bytes.now / 512) c.args.bytes.now) c.args.self.now }
