@@ -1,11 +1,11 @@
 /* Batches as texts: the number of operations (u16), and for each put 1, the key's length (u8), the key, the value's length (u16) and the
- * value; for each delete 2, the key's length and the key. Numbers are in big endian. */
+ * value; for each delete 2, the key's length and the key. Numbers are big-endian. */
 #include "corwaphi.h"
 
 #include <stdlib.h>
 #include <string.h>
 
-/* Where `length` more bytes of a text begin, once there is room for them, and for the number before the first of them. */
+/* Makes room for `length` more bytes of a text, and for the number before the first of them. `at` is where they begin. */
 static uint32_t grown(struct corwaphi_batch *batch, size_t length, uint8_t **at)
 {
     size_t begin = batch->length ? batch->length : 2;

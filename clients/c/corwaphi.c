@@ -1,7 +1,7 @@
-/* Stores that are open, in slots, and their calls. Each call makes on the file what it wrote (told) before it tells its answer.
+/* Open stores, in slots, and their calls. Each call applies what it wrote to the file (told) before it returns its answer.
  *
- * A slot's `writing` is held by the one that writes, compacts or closes, through all its calls of the store; `calling` for each single
- * call. They are taken in this order, and the table last. */
+ * A slot's `writing` is held by the thread that writes, compacts or closes, during all its calls of the store; `calling` for each single
+ * call. They are locked in this order, and the table last. */
 #define _GNU_SOURCE
 #include "files.h"
 
@@ -14,13 +14,13 @@
 struct slot {
     pthread_mutex_t writing, calling;
     atomic_uint waiting; /* how many wait for `calling` */
-    bool taken;          /* whether there is a store in it, or is to be one */
-    bool due;            /* whether merges are left to the next writes */
+    bool taken;          /* whether a store is in it, or is about to be */
+    bool due;            /* whether compactions are left to the next writes */
     uint64_t number;     /* the store's number; 0 while there is none */
     uint64_t last;       /* the last number that was given out here */
     uint64_t forked;     /* the number that a store of this process's parent had here */
     struct file file;
-    struct corwaphi_store_handle handle; /* nothing once a write or a sync of the file has failed */
+    struct corwaphi_store_handle handle; /* none once a write or a sync of the file has failed */
 };
 
 static struct slot slots[CORWAPHI_MOST_STORES];
@@ -32,8 +32,8 @@ static void before_fork(void) { pthread_mutex_lock(&corwaphi_table); }
 
 static void in_parent(void) { pthread_mutex_unlock(&corwaphi_table); }
 
-/* A child lets go of the descriptors, so that it holds no lock of a file, and never touches the stores: another thread may have been in
- * the midst of a call. */
+/* A child closes the descriptors, so that it holds no lock of a file, and never touches the stores: another thread may have been in
+ * the middle of a call. */
 static void in_child(void)
 {
     for (size_t place = 0; place < CORWAPHI_MOST_STORES; place++) {
@@ -72,7 +72,7 @@ static struct slot *reserved(void)
     return slot;
 }
 
-/* Gives back what a slot has. The caller holds its mutexes, or is the only one who knows it. errno stays. */
+/* Releases what a slot has. The caller holds its mutexes, or is the only one that knows it. errno stays as it is. */
 static void given_back(struct slot *slot)
 {
     int error = errno;
@@ -104,7 +104,7 @@ static void left(struct slot *slot, bool writes)
         pthread_mutex_unlock(&slot->writing);
 }
 
-/* Finds the slot of a store, and waits for the right to call it; where it writes, for the right to write before. */
+/* Finds the slot of a store, and waits for the right to call it; if it writes, first for the right to write. */
 static uint32_t entered(corwaphi store, bool writes, struct slot **found)
 {
     struct slot *slot = &slots[store.number % CORWAPHI_MOST_STORES];
@@ -120,7 +120,7 @@ static uint32_t entered(corwaphi store, bool writes, struct slot **found)
     return answer;
 }
 
-/* Between pieces of work the calls of other threads come in. */
+/* Lets calls of other threads in, between two steps of work. */
 static void let_others(struct slot *slot)
 {
     if (!atomic_load(&slot->waiting))
@@ -137,7 +137,7 @@ static void let_others(struct slot *slot)
 #define JOURNAL slot->file.journal, CORWAPHI_STORE_JOURNAL, &slot->file.used
 #define RUNS(call) (slot->handle.at ? (call) : CORWAPHI_STOPPED)
 
-/* The answer of a call, once what it wrote is made. Where that fails the store is let go: an opening finds out what the file has. */
+/* The answer of a call, once what it wrote is applied. If that fails the store is dropped: an opening finds out what the file has. */
 static uint32_t told(struct slot *slot, uint32_t answer)
 {
     if (corwaphi_file_make(&slot->file, slot->file.journal, slot->file.used))
@@ -147,11 +147,11 @@ static uint32_t told(struct slot *slot, uint32_t answer)
     return CORWAPHI_IO;
 }
 
-/* Before each write, and once more for each 2 KiB of it, so many pieces are done of the merges that are due. */
+/* Before each write, and once more for each 2 KiB of it, PIECES steps of the compactions that are due are done. */
 #define PIECES ((size_t)8)
 #define PIECES_FOR ((size_t)2048)
 
-/* Does a piece of what the store is to do, and tells what it was. The store goes on as it then is, whatever it found no room for. */
+/* Does a step of what the store has to do, and returns what it was. The store goes on as it then is, whatever it found no room for. */
 static uint32_t piece_done(struct slot *slot)
 {
     uint32_t did;
@@ -159,7 +159,7 @@ static uint32_t piece_done(struct slot *slot)
     return done ? did : CORWAPHI_STORE_NOTHING;
 }
 
-/* Does all that the store is to do. */
+/* Does all that the store has to do. */
 static void worked(struct slot *slot)
 {
     slot->due = false;
@@ -167,7 +167,7 @@ static void worked(struct slot *slot)
         let_others(slot);
 }
 
-/* Does what a write waits for. Merges that it needn't wait for are left to the next ones. */
+/* Does what a write waits for. Compactions that it needn't wait for are left to the next writes. */
 static void readied_for_write(struct slot *slot)
 {
     uint32_t did;
@@ -176,7 +176,7 @@ static void readied_for_write(struct slot *slot)
     slot->due = did == CORWAPHI_STORE_REST;
 }
 
-/* Goes on with the merges that are due, before a write of so many bytes. */
+/* Continues the compactions that are due, before a write of `bytes` bytes. */
 static void went_on(struct slot *slot, size_t bytes)
 {
     for (size_t left = PIECES * (1 + bytes / PIECES_FOR); slot->due && left; left--)
@@ -208,7 +208,7 @@ static uint32_t tried(struct slot *slot, struct change *it)
     }
 }
 
-/* Writes, once the work is done that comes first. */
+/* Writes, once the work that comes first is done. */
 static uint32_t changed(corwaphi store, struct change it, uint64_t *number, uint8_t *place)
 {
     static const uint8_t none[1];
@@ -264,14 +264,14 @@ uint32_t corwaphi_compact(corwaphi store)
     answer = RUNS(corwaphi_store_compact(HANDLE));
     if (answer == CORWAPHI_OK) {
         worked(slot);
-        /* Only a failure of the file lets the store go. */
+        /* Only a failure of the file drops the store. */
         answer = slot->handle.at ? CORWAPHI_OK : CORWAPHI_IO;
     }
     left(slot, true);
     return answer;
 }
 
-/* A whole function of one call. */
+/* The whole body of a function that makes one call. */
 #define CALLS(call)                                     \
     do {                                                \
         struct slot *slot;                              \

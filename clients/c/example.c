@@ -1,4 +1,4 @@
-/* A first use: a batch, a guard, rows of a moment. `cc example.c -lcorwaphi -lpthread`, or see the Makefile. */
+/* A first use: a batch, a guard, rows as of one moment. `cc example.c -lcorwaphi -lpthread`, or see the Makefile. */
 #include <corwaphi.h>
 #include <stdio.h>
 #include <stdlib.h>
@@ -37,7 +37,7 @@ int main(int count, char **words)
     corwaphi_batch_free(&guards);
     corwaphi_batch_free(&batch);
 
-    /* It outlasts a power cut from here on. */
+    /* It survives a power cut from here on. */
     done(corwaphi_sync(store));
 
     char value[CORWAPHI_MOST_VALUE];

@@ -12,7 +12,7 @@
 #include <unistd.h>
 
 #define SECTOR ((size_t)512)
-/* The bytes of a record of a journal before its sectors. */
+/* The bytes of a journal's record before its sectors. */
 #define HEAD ((size_t)8)
 
 pthread_mutex_t corwaphi_table = PTHREAD_MUTEX_INITIALIZER;
@@ -24,7 +24,7 @@ static uint32_t little(const uint8_t *at)
     return (uint32_t)at[0] | (uint32_t)at[1] << 8 | (uint32_t)at[2] << 16 | (uint32_t)at[3] << 24;
 }
 
-/* Writes bytes at a place, all of them. */
+/* Writes all of the bytes, from an offset on. */
 static bool written(int file, const uint8_t *bytes, size_t length, off_t at)
 {
     while (length) {
@@ -40,7 +40,7 @@ static bool written(int file, const uint8_t *bytes, size_t length, off_t at)
     return true;
 }
 
-/* Whether a call is to be made again, since a signal came. */
+/* Whether a call has to be made again, because a signal came. */
 static bool again(int result) { return result && errno == EINTR; }
 
 static bool synced(int file)
@@ -59,7 +59,7 @@ static bool synced_whole(int file)
     return !result;
 }
 
-/* Whether a journal is one of records that end where it ends, and of sectors that the file has. */
+/* Whether a journal consists of records that end where it ends, and only of sectors that the file has. */
 static bool is_journal(const struct file *file, const uint8_t *journal, size_t used)
 {
     size_t at = 0;
@@ -150,7 +150,7 @@ void corwaphi_file_close(struct file *file)
         munmap((void *)(uintptr_t)file->image, file->length);
     free(file->journal);
     if (file->descriptor >= 0) {
-        /* A child between fork and exec may have the descriptor too, so that closing it would leave the lock. */
+        /* A child between fork and exec may have the descriptor too, so closing it would not release the lock. */
         flock(file->descriptor, LOCK_UN);
         close(file->descriptor);
     }
@@ -195,7 +195,7 @@ static uint32_t formatted(struct file *file, const struct corwaphi_options *opti
     return corwaphi_file_make(file, file->journal, file->used) && synced_whole(file->descriptor) ? CORWAPHI_OK : CORWAPHI_FILE;
 }
 
-/* Makes a store in a file beside the one of a path; it gets the path's name then, unless a file has it. */
+/* Makes a store in a file next to the one of a path; then it gets the path's name, unless a file has it. */
 static uint32_t created(struct file *file, char *path, const char *beside, const struct corwaphi_options *options)
 {
     uint32_t answer = corwaphi_file_open(file, beside, O_CREAT);

@@ -1,9 +1,9 @@
-/* The memory of the store, by malloc, for a machine of which the kit has no library for it: `make HEAP=heap.o`, see README.md. */
+/* The memory of the store, from malloc, for a machine for which the kit has no library for it: `make HEAP=heap.o`, see README.md. */
 #include <stdbool.h>
 #include <stddef.h>
 #include <stdlib.h>
 
-/* Whether there is memory, and where; and a byte where there is none. */
+/* Whether there is memory, and where; if there is none, a byte. */
 struct tried {
     bool ok;
     void *at;
@@ -19,7 +19,7 @@ static struct tried tried(void *at)
     return (struct tried){at != NULL, at ? at : &nowhere};
 }
 
-/* malloc aligns to 16, which is the most that is asked for. A block of no bytes has those of its alignment. */
+/* malloc aligns to 16, which is the most that is asked for. A block of no bytes gets as many as its alignment. */
 struct tried rattle_alloc(size_t length, size_t alignment) { return tried(malloc(length ? length : alignment)); }
 
 struct tried rattle_realloc(void *at, size_t kept, size_t length, size_t alignment)

@@ -1,4 +1,4 @@
-/* Rows of a page, and cursors over all rows of one moment. */
+/* Rows of a page, and cursors over all rows as of one moment. */
 #include "corwaphi.h"
 
 #include <stdlib.h>

@@ -1,4 +1,4 @@
-/* What calls return for arguments that are wrong, for stores that are closed, in use or a parent's, and for threads: `calls PATH`. */
+/* What calls return for wrong arguments, for stores that are closed, in use or a parent's, and for threads: `calls PATH`. */
 #include "model.h"
 
 #include <errno.h>
@@ -32,7 +32,7 @@ static void check_files(const char *path)
     EXPECT(CORWAPHI_OK, corwaphi_open(path, &small, &store));
     EXPECT(CORWAPHI_IN_USE, corwaphi_open(path, &small, &other));
     EXPECT(CORWAPHI_CLOSED, corwaphi_sync(other));
-    /* Files of other lengths, and of no store. */
+    /* Files of other lengths, and files that hold no store. */
     char name[1024];
     snprintf(name, sizeof name, "%s.other", path);
     int file = open(name, O_RDWR | O_CREAT | O_TRUNC, 0644);
@@ -162,7 +162,7 @@ static void check_threads(void)
     CHECK(rows == 1600);
 }
 
-/* Stores at the same time, up to the most; and numbers that are not given again. */
+/* Stores at the same time, as many as there may be; and numbers that are not given out again. */
 static void check_many(const char *path)
 {
     static corwaphi many[CORWAPHI_MOST_STORES];
@@ -181,7 +181,7 @@ static void check_many(const char *path)
     }
 }
 
-/* Puts until there is no room: what is there stays, and deletes are taken. */
+/* Puts until there is no room: what is there stays, and deletes are accepted. */
 static void check_full(const char *path)
 {
     uint8_t value[2048], got[2048];

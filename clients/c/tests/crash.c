@@ -1,7 +1,7 @@
-/* Crashes of journals: `crash CRASHES SEED`. The host makes them (corwaphi_file_make) by system calls that a model of a disk takes the place
- * of: sectors that stand, and writes that pend. A crash comes at any write or sync of any journal, of openings too, keeps any of the writes
- * that pend and drops the others; then the store is opened again, and its map has to be that of some batch between the last one that was
- * synced and the last one that was written. */
+/* Crashes of journals: `crash CRASHES SEED`. The host applies them (corwaphi_file_make) by system calls that a model of a disk replaces:
+ * durable sectors, and pending writes. A crash comes at any write or sync of any journal, of openings too, keeps any of the pending writes
+ * and drops the others; then the store is opened again, and its map has to be that of some batch between the last one that was synced and
+ * the last one that was written. */
 #include "model.h"
 #include "../files.h"
 
@@ -27,7 +27,7 @@ static const struct file file = {.descriptor = DISK, .length = (size_t)SECTORS *
 static uint16_t (*maps)[NAMES]; /* by the number of batches; 0 for no value */
 static struct corwaphi_store_handle handle;
 static uint64_t crashes, within_openings, openings, operations, jobs, rests, tables_most;
-static uint64_t generation; /* of the manifest that stands */
+static uint64_t generation; /* of the valid manifest */
 static uint32_t one_in = 60;
 static bool is_calm = true; /* whether no crash comes */
 
@@ -46,7 +46,7 @@ static void crash(void)
     crashes++;
 }
 
-/* A call of the system that fails, since the crash has come. */
+/* A system call that fails, since the crash has come. */
 static int crashes_in(uint32_t calls)
 {
     if (is_calm || below(calls))
@@ -56,7 +56,7 @@ static int crashes_in(uint32_t calls)
     return -1;
 }
 
-/* The system's calls on the model: DISK is its descriptor. */
+/* The system calls on the model: DISK is its descriptor. */
 ssize_t __wrap_pwrite(int descriptor, const void *bytes, size_t length, off_t at);
 ssize_t __wrap_pwrite(int descriptor, const void *bytes, size_t length, off_t at)
 {
@@ -87,7 +87,7 @@ int __wrap_fdatasync(int descriptor)
     return 0;
 }
 
-/* Makes a journal on the disk; false if a crash comes. */
+/* Applies a journal to the disk; false if a crash comes. */
 static bool make(size_t used)
 {
     uint64_t before = crashes;
@@ -96,7 +96,7 @@ static bool make(size_t used)
     return made && !crashes_in(one_in * 10);
 }
 
-/* A manifest stands durably, once the call that wrote it is made: nothing pends. */
+/* A manifest is durable once the journal of the call that wrote it is applied: nothing is pending. */
 static void check_manifest(void)
 {
     struct corwaphi_numbers numbers;
@@ -146,7 +146,7 @@ static uint16_t value_at(uint32_t name)
     return (uint16_t)(value[0] | value[1] << 8);
 }
 
-/* Does a piece of work; false if a crash comes. */
+/* Does a step of work; false if a crash comes. */
 static bool work(uint32_t *did)
 {
     size_t used;
@@ -159,7 +159,7 @@ static bool work(uint32_t *did)
     return true;
 }
 
-/* Goes on with merges that were left to the next writes, some pieces or none; false if a crash comes. */
+/* Continues compactions that were left to the next writes, some steps or none; false if a crash comes. */
 static bool go_on(void)
 {
     uint32_t did = CORWAPHI_STORE_REST;
@@ -169,7 +169,7 @@ static bool go_on(void)
     return true;
 }
 
-/* Writes a batch once the work is done that comes first, all of it or what the batch waits for; false if a crash comes. */
+/* Writes a batch once the work that comes first is done, all of it or what the batch waits for; false if a crash comes. */
 static bool write_batch(const struct corwaphi_batch *batch, uint64_t *count)
 {
     if (!go_on())

@@ -1,5 +1,5 @@
 /* Each system call by which the host works on the file fails in turn, falls short, or is interrupted: `faults PATH`. What was synced is
- * there after the next opening, no batch in part, and a store whose write or sync has failed takes no more calls. */
+ * there after the next opening, no batch is there in part, and a store whose write or sync has failed takes no more calls. */
 #include "model.h"
 
 #include <errno.h>
@@ -15,7 +15,7 @@ static enum way way;
 static uint64_t calls, failing;
 static bool has_failed;
 
-/* Whether this call is the one that doesn't go well. */
+/* Whether this call is the one that goes wrong. */
 static bool is_it(void)
 {
     if (way == WELL || calls++ != failing)
@@ -32,7 +32,7 @@ ssize_t __wrap_pwrite(int file, const void *bytes, size_t length, off_t at)
         return __real_pwrite(file, bytes, length, at);
     if (way == SHORT)
         return __real_pwrite(file, bytes, length > 700 ? 700 : 1 + length / 2, at);
-    /* A write that fails may have written some. */
+    /* A write that fails may have written a part. */
     if (way == FAILS && length > 512)
         CHECK(__real_pwrite(file, bytes, 512, at) == 512);
     errno = way == FAILS ? EIO : EINTR;
@@ -54,7 +54,7 @@ WRAPPED(fdatasync, (int file), (file))
 WRAPPED(fsync, (int file), (file))
 WRAPPED(ftruncate, (int file, off_t length), (file, length))
 
-/* One that doesn't wait is not interrupted. */
+/* A call that doesn't wait is not interrupted. */
 int __real_flock(int file, int operation);
 int __wrap_flock(int file, int operation);
 int __wrap_flock(int file, int operation)
@@ -122,7 +122,7 @@ static void lead(const char *path)
         }
         code = corwaphi_write(store, batch.text, batch.length, NULL);
         corwaphi_batch_free(&batch);
-        /* One that failed may be there after the next opening. */
+        /* A batch that failed may be there after the next opening. */
         written++;
         if (has_stopped(code))
             return;
@@ -161,7 +161,7 @@ static void ready(enum way each, uint64_t place)
     way = each;
 }
 
-/* Whether a call didn't go well, of a store that is there and has what was synced. */
+/* Whether a call went wrong; the store has to be there and to have what was synced. */
 static bool has_outlasted(const char *path)
 {
     EXPECT(CORWAPHI_OK, corwaphi_open(path, &options, &store));
@@ -184,7 +184,7 @@ static uint64_t make_all(const char *path, enum way each)
             EXPECT(CORWAPHI_OK, code);
         } else {
             EXPECT(CORWAPHI_FILE, code);
-            /* But where the folder's name can't be synced the file is there, and whole. */
+            /* But if the name in the folder can't be synced the file is there, and whole. */
             if (access(path, F_OK))
                 EXPECT(CORWAPHI_OK, corwaphi_create(path, &options));
         }
@@ -194,7 +194,7 @@ static uint64_t make_all(const char *path, enum way each)
     }
 }
 
-/* The calls of a life fail in turn, those of the middle each seventeenth. */
+/* The calls of a run fail in turn, in its middle every seventeenth. */
 static uint64_t lead_all(const char *path, enum way each)
 {
     uint64_t runs = 0;

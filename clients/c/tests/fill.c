@@ -42,7 +42,7 @@ static void shuffle(uint32_t count)
     }
 }
 
-/* Writes a batch of the keys at some places of the order: a value for each, or the deletes of them. */
+/* Writes a batch of the keys at some places of the order: a value for each, or a delete of each. */
 static uint32_t write_some(const struct kind *kind, uint32_t round, uint32_t first, uint32_t count, bool puts)
 {
     struct corwaphi_batch batch = CORWAPHI_BATCH;
@@ -61,7 +61,7 @@ static uint32_t write_some(const struct kind *kind, uint32_t round, uint32_t fir
     return code;
 }
 
-/* Puts until not even one finds room, and tells how many did. */
+/* Puts until not even one put finds room, and returns how many did. */
 static uint32_t fill(const struct kind *kind, uint32_t round)
 {
     uint32_t count = 0, most = kind->most_in_batch;

@@ -1,5 +1,5 @@
-/* How the host makes a journal on a file: just its writes and its syncs, in their order, `journal` without words. And what it does with
- * lengths that are wrong: of a journal, and of a page's rows. */
+/* How the host applies a journal to a file: exactly its writes and its syncs, in order, `journal` without arguments. And what it does with
+ * wrong lengths: of a journal, and of a page's rows. */
 #include "model.h"
 #include "../files.h"
 
@@ -10,7 +10,7 @@
 #define SECTORS 64
 #define MOST 32
 
-/* The calls of the system that were made: writes of some sectors, with the first byte of each, and syncs, which have none. */
+/* The system calls that were made: writes of some sectors, with the first byte of each, and syncs, which have none. */
 static struct {
     uint32_t first, count;
     uint8_t bytes[SECTORS];
@@ -62,7 +62,7 @@ static void number(uint8_t *at, uint32_t it)
         at[place] = (uint8_t)(it >> (8 * place));
 }
 
-/* Adds a record: so many sectors from the first one on, of which each is full of a byte, the next one of the next byte. */
+/* Adds a record: `count` sectors from `first` on, each filled with one byte, the next sector with the next byte. */
 static void record(uint32_t first, uint32_t count, uint8_t byte)
 {
     number(journal + used, first);
@@ -118,7 +118,7 @@ static void check_order(void)
     }
 }
 
-/* Of a journal that isn't whole nothing is made, wherever it ends; nor of one that has sectors behind the file's end. */
+/* Nothing is applied of a journal that isn't whole, wherever it ends; nor of one that has sectors after the file's end. */
 static void check_lengths(void)
 {
     write_all();
@@ -150,7 +150,7 @@ static void check_lengths(void)
     CHECK(!corwaphi_file_make(&file, journal, used) && made_count == 0);
 }
 
-/* Rows are read while the page has their bytes, whatever it says of their number and their lengths. */
+/* Rows are read while the page has their bytes, whatever it says about their number and their lengths. */
 static void check_page(void)
 {
     static const uint8_t text[] = {1, 0, 2, 0, 'a', 'x', 'y', 1, 0, 0, 0, 'b', 9, 0, 1, 0, 'c'};

@@ -1,5 +1,5 @@
-/* A queue with two threads in a process that is killed at random, again and again: `killed PATH KILLS SEED`. What a thread told after its
- * sync has to be there in the next process, each task once. */
+/* A queue with two threads in a process that is killed at random, again and again: `killed PATH KILLS SEED`. What a thread reported after
+ * its sync has to be there in the next process, each task once. */
 #include "model.h"
 
 #include <pthread.h>
@@ -11,8 +11,8 @@
 static const struct corwaphi_options options = {32, 16384, 256};
 static corwaphi store;
 static int told_to;
-static uint64_t waiting;    /* how many tasks waited when this life began */
-static atomic_ullong taken; /* how many tasks were taken in this life */
+static uint64_t waiting;    /* how many tasks waited when this process began */
+static atomic_ullong taken; /* how many tasks were taken in this process */
 
 static size_t name_of(const char *kind, uint64_t task, char name[32]) { return (size_t)snprintf(name, 32, "%s/%010llu", kind, (unsigned long long)task); }
 
@@ -56,7 +56,7 @@ static void *add(void *unused)
     uint64_t begun = number_at("last");
     for (uint64_t task = begun + 1;; task++) {
         uint64_t written;
-        /* The store has room for so many that wait, earlier lives' too, and for what a life adds. */
+        /* The store has room for 200 tasks that wait, earlier processes' too, and for what a process adds. */
         while (waiting + (task - begun) > 200 + atomic_load(&taken) || task - begun > 2000)
             usleep(200);
         corwaphi_batch_clear(&batch);
@@ -108,7 +108,7 @@ static void child(const char *path)
     pthread_join(taker, NULL);
 }
 
-/* What was told before the kill: the last task that was added, and the last that was done, since both go on in order. */
+/* What was reported before the kill: the last task that was added, and the last that was done, since both go in order. */
 static void heard(FILE *from, uint64_t *added, uint64_t *done)
 {
     char line[64];
@@ -119,7 +119,7 @@ static void heard(FILE *from, uint64_t *added, uint64_t *done)
     }
 }
 
-/* Each task from the first one on that is not forgotten is at one key, and those that are done come first. */
+/* From the first task that is not forgotten on, each is at one key, and those that are done come first. */
 static void check(uint64_t first, uint64_t added, uint64_t done)
 {
     struct corwaphi_cursor *cursor;
@@ -141,7 +141,7 @@ static void check(uint64_t first, uint64_t added, uint64_t done)
     CHECK(next == last + 1);
 }
 
-/* Forgets what is done, so that a run may be as long as it likes. */
+/* Forgets what is done, so that a run may be of any length. */
 static uint64_t forget(uint64_t first)
 {
     char name[32];

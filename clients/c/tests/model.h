@@ -40,7 +40,7 @@ static inline uint32_t below(uint32_t bound)
     return (uint32_t)(seed >> 11) % bound;
 }
 
-/* The keys in their order: those of even places are short, the others have up to 255 bytes. */
+/* The keys in order: those at even places are short, the others have up to 255 bytes. */
 static inline size_t key_of(uint32_t place, uint8_t key[CORWAPHI_MOST_KEY])
 {
     size_t length = (size_t)snprintf((char *)key, 16, "k%04u", place);

@@ -1,4 +1,4 @@
-/* Random calls beside a map in an array: `random PATH CALLS SEED`. */
+/* Random calls, compared with a map in an array: `random PATH CALLS SEED`. */
 #include "model.h"
 
 #include <unistd.h>
@@ -40,7 +40,7 @@ static void check_row(const struct corwaphi_row *row, const struct map *map, uin
     CHECK(row->value_length == value_of(map->numbers[place], wanted) && !memcmp(row->value, wanted, row->value_length));
 }
 
-/* Pages of any size, in any buffer, say together what the map says. */
+/* Pages of any size, in any buffer, together have what the map has. */
 static void check_rows(uint64_t snapshot, const struct map *map)
 {
     static uint8_t buffer[CORWAPHI_PAGE_BYTES];
@@ -138,7 +138,7 @@ static void write_batch(void)
         for (uint32_t place = 0; place < count; place++) {
             uint32_t at = below(KEYS), number = now.numbers[at] ^ (place == wrong);
             size_t key_length = key_of(at, key), length = value_of(number, value);
-            /* Not each other number is another value. */
+            /* Different numbers may be the same value. */
             uint8_t other[CORWAPHI_MOST_VALUE];
             if (place == wrong && number && now.numbers[at] && value_of(now.numbers[at], other) == length && !memcmp(value, other, length))
                 wrong = 99;
