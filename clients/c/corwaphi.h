@@ -117,8 +117,9 @@ struct corwaphi_options {
 #define CORWAPHI_OPTIONS ((struct corwaphi_options){256, 65536, 2042})
 
 /* Makes an empty store in a new file. The file has its name only once it is whole and durable. Returns CORWAPHI_FILE with errno EEXIST if
- * a file of that name is there, CORWAPHI_BAD_GEOMETRY for a size outside the limits, CORWAPHI_IN_USE if another one is making it,
- * CORWAPHI_FILE, NO_MEMORY, IO, TOO_MANY_STORES. While it works there is a file with `.corwaphi-new` after the name. */
+ * a file of that name is there, and with another errno if the new one can't be made, written or synced; CORWAPHI_BAD_GEOMETRY for a size
+ * outside the limits, CORWAPHI_IN_USE if another one is making it, NO_MEMORY, TOO_MANY_STORES. While it works there is a file with
+ * `.corwaphi-new` after the name. */
 uint32_t corwaphi_create(const char *path, const struct corwaphi_options *options);
 
 /* Opens the store in a file or a block device, also after a crash, and finishes what waits there, as far as there is room for it. Returns
@@ -133,9 +134,10 @@ uint32_t corwaphi_open_or_create(const char *path, const struct corwaphi_options
  * CORWAPHI_CLOSED if it was closed before, or CORWAPHI_FORKED. */
 uint32_t corwaphi_close(corwaphi store);
 
-/* ---- writes: each makes room by itself, so it may take longer than others, and may sync. It returns CORWAPHI_NO_SPACE if puts find no
- * room although all SSTables were compacted down as far as they can be, or deletes while a snapshot is live; CORWAPHI_EXHAUSTED after 2^63
- * batches, NO_MEMORY, IO, STOPPED, CLOSED or FORKED. The sequence number of its batch is returned in `number`, which may be NULL. */
+/* ---- writes: each makes room by itself, so it may take longer than others, and may sync. It returns CORWAPHI_NO_SPACE if puts, or deletes
+ * while a snapshot is live, find no room although all SSTables were compacted down as far as they can be; and, whatever it writes, if no
+ * log with room could be opened, for lack of blocks or memory. It also returns CORWAPHI_EXHAUSTED after 2^63 batches, NO_MEMORY, IO,
+ * STOPPED, CLOSED or FORKED. The sequence number of its batch is returned in `number`, which may be NULL. */
 
 /* Puts a value under a key. Also BAD_KEY, BAD_VALUE. */
 uint32_t corwaphi_put(corwaphi store, const void *key, size_t key_length, const void *value, size_t value_length, uint64_t *number);

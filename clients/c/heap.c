@@ -1,4 +1,4 @@
-/* The memory of the store, from malloc, for a machine for which the kit has no library for it: `make HEAP=heap.o`, see README.md. */
+/* The memory of the store, from malloc, for a machine for which the kit has no library for it: `make HEAP=`, see Makefile. */
 #include <stdbool.h>
 #include <stddef.h>
 #include <stdlib.h>

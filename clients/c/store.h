@@ -1,9 +1,9 @@
 /* The exports of libcorwaphi_c.a, the store itself, for a host of your own. Programs use corwaphi.h, whose host is corwaphi.c.
  *
- * A host keeps a file for itself, and a mapping of it (or a copy in memory). Each call except close takes the store's handle, and puts it
- * into `slot` again: a handle is passed to one call at a time, and the one that comes back is the next one. `image` is the file as it is
- * now. A call that writes fills `used` bytes of `journal`: the host applies them to the file, in order, before it passes on the answer and
- * before the next call, whatever the answer is:
+ * A host keeps a file for itself, and a mapping of it (or a copy in memory). An opening that answers CORWAPHI_OK puts the store's handle
+ * into `slot`. Each later call takes the handle, and except close puts it into `slot` again: a handle is passed to one call at a time, and
+ * the one that comes back is the next one. `image` is the file as it is now. A call that writes fills `used` bytes of `journal`: the host
+ * applies them to the file, in order, before it passes on the answer and before the next call, whatever the answer is:
  *
  *     first sector (u32), number of sectors (u32), both in little endian, and the bytes of these sectors, 512 each:
  *         write them from the byte 512 * (first sector) on
@@ -24,9 +24,9 @@
  * - after corwaphi_store_compact, which asks that all goes into SSTables, and all SSTables into the last level, as far as they find room.
  *
  * Each of these continues from where the store then is, even if earlier work was not ended. A step that finds no room or memory is
- * skipped. So put, delete, write and write_if answer CORWAPHI_NO_SPACE if a batch that puts values finds no room in SSTables, although all
- * were compacted down as far as they can be; for deletes only while a snapshot is live, or if no log could be opened. CORWAPHI_LOG_FULL is
- * never an answer.
+ * skipped. So put, delete, write and write_if answer CORWAPHI_NO_SPACE if a batch finds no room in SSTables, although all were compacted
+ * down as far as they can be: one of deletes alone only while a snapshot is live. They also answer it, whatever the batch, if no log with
+ * room could be opened, for lack of blocks or memory. CORWAPHI_LOG_FULL is never an answer.
  */
 #ifndef CORWAPHI_STORE_H
 #define CORWAPHI_STORE_H
