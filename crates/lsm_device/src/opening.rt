@@ -1,14 +1,13 @@
 //! Opens and locks files for devices.
 
 use crate::OpenError;
+use crate::device::SECTOR_BYTES;
 use std::fs::{File, Files, Metadata, OpenOptions, TryLockError};
 use std::io::{ErrorKind, Seek, SeekFrom};
 use std::os::fd::AsRawFd;
 use std::os::unix::fs::{FileTypeExt, MetadataExt};
 use std::path::Path;
 use std::{fs, io};
-
-pub(crate) const SECTOR_BYTES: u64 = 512;
 
 /// The least descriptor that a device keeps. Those below are the standard streams: what is printed may go to them.
 const LEAST_DESCRIPTOR: i32 = 3;
@@ -106,10 +105,10 @@ fn check_name<R: Files<File = File>>(files: &R, path: &str, file: &File) -> Resu
 pub(crate) fn sectors_of(file: &mut File) -> Result<u32, OpenError> {
     // The metadata of a block device has no length, so the end is sought.
     let bytes = file.seek(SeekFrom::End(0)).map_err(OpenError::Failed)?;
-    if bytes % SECTOR_BYTES != 0 {
+    if bytes % SECTOR_BYTES as u64 != 0 {
         return Err(OpenError::Uneven);
     }
-    match u32::try_from(bytes / SECTOR_BYTES) {
+    match u32::try_from(bytes / SECTOR_BYTES as u64) {
         Ok(count) => Ok(count),
         Err(_) => Err(OpenError::TooLarge),
     }

@@ -14,13 +14,11 @@ ghost use Rattle.lsm_log.specs.Opened.{IsOpen, IsGrownBy, TakesBatch, batches_in
 
 use crate::Log;
 use lsm_codec::{Batch, LogSector};
-use lsm_device::{Device, Fault, Refusal};
+use lsm_device::{Device, Fault, Refusal, SECTOR_BYTES};
 use std::alloc::Allocator;
 
 /// The bytes of a batch's text that a sector holds.
 const PAYLOAD: usize = 480;
-
-const SECTOR_BYTES: usize = 512;
 
 /// How many sectors one call of the device writes at most.
 const RUN_SECTORS: u16 = 16;

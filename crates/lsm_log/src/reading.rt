@@ -14,10 +14,8 @@ ghost use Rattle.lsm_log.specs.Replay.{is_awaited as is_awaited_part, awaited, r
 
 use crate::read_batches::ReadBatches;
 use lsm_codec::{Batch, LogSector};
-use lsm_device::{Device, Refusal, piece};
+use lsm_device::{Device, Refusal, SECTOR_BYTES, piece};
 use std::alloc::{AllocError, Allocator};
-
-const SECTOR_BYTES: usize = 512;
 
 /// How many sectors one call of the device reads at most.
 const RUN_SECTORS: u32 = 16;

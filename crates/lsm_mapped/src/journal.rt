@@ -3,11 +3,10 @@ ghost use Rattle.std.specs.Prelude.{◌≡◌, ◌≤◌, ◌+◌, ◌++◌, len
 ghost use Rattle.lsm_mapped.specs.Records.{number_text};
 
 use byteorder::{ByteOrder, LittleEndian};
+use lsm_device::SECTOR_BYTES;
 
 /// The bytes of a record's head: the first sector and the number of sectors, each a u32 in little endian.
 const HEAD_BYTES: usize = 8;
-
-const SECTOR_BYTES: usize = 512;
 
 /// The writes and syncs of a call in their order, each a record: a head of 8 bytes, which has the first sector and the number of
 /// sectors, each a u32 in little endian, and then the bytes of these sectors. A record with no sectors is a sync. A write that goes on

@@ -5,10 +5,8 @@ ghost use Rattle.lsm_mapped.specs.Journals.{Fills, records_in};
 
 use crate::journal::Journal;
 use crate::past::Past;
-use lsm_device::{Calls, Device, Fault};
+use lsm_device::{Calls, Device, Fault, SECTOR_BYTES};
 use std::mem;
-
-const SECTOR_BYTES: usize = 512;
 
 /// The host's mapping of a file, and room for a journal of what a call writes. Contracts see the disks that the file has had, of
 /// which the mapping shows the last, and those that it has had once the records of the journal are made on it. Where the mapping ends

@@ -14,14 +14,12 @@ ghost use Rattle.lsm_open.specs.Image.{StandFor};
 ghost use Rattle.lsm_open.specs.Formatted.{empty_manifest, IsFormatted, handed_back, without_device};
 
 use lsm_codec::{Manifest, ROOT_SECTORS};
-use lsm_device::{Device, Fault, Refusal};
+use lsm_device::{Device, Fault, Refusal, SECTOR_BYTES};
 use lsm_root::{NextRoot, is_geometry};
 use std::alloc::Allocator;
 
 /// How many sectors of zeros one call of the device writes.
 const ZERO_SECTORS: u32 = 128;
-
-const SECTOR_BYTES: usize = 512;
 
 const LOG_REGIONS: u32 = 3;
 

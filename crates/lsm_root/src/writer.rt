@@ -9,13 +9,11 @@ ghost use Rattle.lsm_root.specs.Counted.{CallsMade};
 ghost use Rattle.lsm_root.specs.Installed.{IsStage};
 ghost use Rattle.lsm_root.specs.Layout.{place};
 
-use lsm_device::{Device, Fault};
+use lsm_device::{Device, Fault, SECTOR_BYTES};
 
 pub(crate) const SUPERBLOCKS: u32 = 2;
 
 pub(crate) const AREA_SECTORS: u32 = 64;
-
-const SECTOR_BYTES: usize = 512;
 
 // Writes the text, a sector for each 512 bytes, by one call of the device.
 fn write_text<D: Device>(device: &mut D, at: u32, text: &[u8], parts: u16) -> Result<(), Fault>
