@@ -6,6 +6,7 @@ ghost use Rattle.lsm_codec.specs.Reading.{Lends};
 ghost use Rattle.lsm_codec.specs.Footers.{summary_of, IsSummary, footer_at, footer_block, footer_of};
 
 use crate::filled::Filled;
+use crate::greatest::LAST_NUMBER;
 use crate::lending::{is_zero, key_at};
 use byteorder::{BigEndian, ByteOrder};
 
@@ -49,7 +50,7 @@ impl<'a> Footer<'a> {
     pub fn is_within_limits(&self) -> bool
         ensures { IsTrue result ↔ IsSummary (summary_of self.now) }
     {
-        self.number <= 1 << 63
+        self.number <= LAST_NUMBER
             && (1..=64).contains(&self.data_blocks)
             && (1..=3_200).contains(&self.entries)
             && (10..=16_896).contains(&self.index_len)

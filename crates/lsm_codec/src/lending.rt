@@ -6,6 +6,7 @@ ghost use Rattle.lsm_codec.specs.Reading.{Lends, number_at, bytes_at};
 ghost use Rattle.lsm_codec.specs.BatchText.{key_at, value_at};
 ghost use Rattle.lsm_codec.specs.Entries.{are_zeros, batch_number_at};
 
+use crate::greatest::LAST_NUMBER;
 use byteorder::{BigEndian, ByteOrder};
 
 pub(crate) fn u8_at(bytes: &[u8]) -> Option<(u8, &[u8])>
@@ -72,7 +73,7 @@ pub(crate) fn batch_number_at(bytes: &[u8]) -> Option<(u64, &[u8])>
         return None;
     }
     let number = BigEndian::read_u64(bytes);
-    if !(1..=1 << 63).contains(&number) {
+    if !(1..=LAST_NUMBER).contains(&number) {
         return None;
     }
     Some((number, &bytes[8..]))

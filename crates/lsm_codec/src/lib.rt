@@ -12,6 +12,7 @@ mod filled;
 mod footer;
 mod gathered;
 mod geometry;
+mod greatest;
 mod guard;
 mod index;
 mod key;
@@ -44,6 +45,7 @@ pub use geometry::{
     LEAST_LOG_SECTORS, LEAST_SECTORS, MOST_LOG_SECTORS, MOST_SECTORS, ROOT_SECTORS, data_blocks,
     is_device_size, is_log_size,
 };
+pub use greatest::LAST_NUMBER;
 pub use guard::Guard;
 pub use index::{Edge, Index};
 pub use key::Key;

@@ -6,6 +6,7 @@ ghost use Rattle.lsm_codec.specs.TableRecords.{IsTableRecord, IsOfVersion};
 ghost use Rattle.lsm_codec.specs.Manifests.{BeginsAfter, NumbersFit, LogsFit, TablesFit, IsManifest};
 
 use crate::agree::each_two_agree;
+use crate::greatest::LAST_NUMBER;
 use crate::log_record::LogRecord;
 use crate::manifest::Manifest;
 use crate::superblock::FormatVersion;
@@ -26,9 +27,9 @@ impl<A: Allocator> Manifest<A> {
     fn numbers_fit(&self) -> bool
         ensures { IsTrue result ↔ NumbersFit self.now }
     {
-        (1..=1 << 63).contains(&self.generation())
-            && self.base() <= 1 << 63
-            && (1..=(1 << 63) + 1).contains(&self.next_table())
+        (1..=LAST_NUMBER).contains(&self.generation())
+            && self.base() <= LAST_NUMBER
+            && (1..=LAST_NUMBER + 1).contains(&self.next_table())
             && self.runs() <= 12
             && self.logs().len() <= 3
             && self.tables().len() <= 1_024

@@ -14,6 +14,7 @@ ghost use Rattle.lsm_jobs.specs.Refusing.{HasInput, IsNotFrozen, RefusesInput, R
 use crate::outputs::Outputs;
 use crate::placing::place_all;
 use crate::slots::Slots;
+use lsm_codec::LAST_NUMBER;
 use lsm_device::Refusal;
 use lsm_extent::Extents;
 use lsm_merge::{Built, Input};
@@ -22,7 +23,7 @@ use std::alloc::Allocator;
 use std::sync::Arc;
 
 /// One more than the last number of a table.
-const NUMBERS_END: u64 = (1 << 63) + 1;
+const NUMBERS_END: u64 = LAST_NUMBER + 1;
 
 /// The outputs of a job with this input, whose images are placed under the numbers from one on.
 fn outputs_of<A: Allocator + Clone>(

@@ -17,6 +17,7 @@ use crate::gathering::Gathering;
 use crate::held::{HeldJob, Work};
 use crate::merge::{MergeTables, add_handles};
 use crate::slots::{Slots, free_place};
+use lsm_codec::LAST_NUMBER;
 use lsm_device::Refusal;
 use lsm_levels::{Choice, Levels, Pick, PlacedTable, Run, share_all};
 use lsm_mem::Sealed;
@@ -233,7 +234,7 @@ impl<A: Allocator> Slots<A> {
         ensures refusals { IfErr result (λ refusal. refusal ≡ Exhausted) }
     {
         let has_next = self.next_job(levels, asked, waiting).is_some();
-        if has_next && self.next > 1 << 63 {
+        if has_next && self.next > LAST_NUMBER {
             return Err(Refusal::Exhausted);
         }
         Ok(has_next)
@@ -264,7 +265,7 @@ impl<A: Allocator> Slots<A> {
         let Some((place, job)) = self.next_job(levels, asked, sealed.is_some()) else {
             return Ok(None);
         };
-        if self.next > 1 << 63 {
+        if self.next > LAST_NUMBER {
             return Err(Refusal::Exhausted);
         }
         let held = job_for(alloc, self.next, levels, &job, sealed, cuts)?;

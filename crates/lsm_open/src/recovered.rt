@@ -25,7 +25,7 @@ use crate::regions::Regions;
 use crate::reopened::reopen;
 use crate::replayed::{Replayed, replay_regions};
 use crate::tables::read_tables;
-use lsm_codec::{LogRecord, Manifest, TableRecord, is_device_size};
+use lsm_codec::{LAST_NUMBER, LogRecord, Manifest, TableRecord, is_device_size};
 use lsm_device::{Device, Refusal};
 use lsm_extent::Extents;
 use lsm_levels::Levels;
@@ -34,8 +34,6 @@ use lsm_root::Loaded;
 use lsm_root::laws::root_laws;
 use std::alloc::{Allocator, Global};
 use std::sync::Arc;
-
-const LAST_GENERATION: u64 = 1 << 63;
 
 /// A store's parts, tables and all, as an opening recovers them.
 #[derive(Drop)]
@@ -117,7 +115,7 @@ fn keep<A: Allocator + Clone>(
     ensures ordered { IfOk result (λ k. AreOrdered (sealed_versions (option_map arc_value k.sealed))) }
     ensures refused { IfErr result (λ refusal. ((refusal ≡ Refusal.Exhausted) × (manifest.now.generation ≡ last_number)) ⊎ (refusal ≡ Refusal.NoMemory)) }
 {
-    if manifest.generation() == LAST_GENERATION {
+    if manifest.generation() == LAST_NUMBER {
         return Err(Refusal::Exhausted);
     }
     let mut records = Vec::new(alloc.clone()?);

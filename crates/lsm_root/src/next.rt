@@ -14,12 +14,10 @@ ghost use Rattle.lsm_root.specs.Layout.{IsGeometry, LieInside};
 ghost use Rattle.lsm_root.specs.Roots.{Stands};
 
 use crate::writer::switch;
-use lsm_codec::{FormatVersion, Manifest, Superblock};
+use lsm_codec::{FormatVersion, LAST_NUMBER, Manifest, Superblock};
 use lsm_device::{Device, Fault, Refusal};
 use std::alloc::{Allocator, Global};
 use std::marker::Model;
-
-const LAST_GENERATION: u64 = 1 << 63;
 
 /// The root of the next generation, with all that is to be written of it, in version 2 of the format. Contracts see the size of the
 /// device, LOG and what the manifest says.
@@ -57,7 +55,7 @@ impl<A: Allocator> NextRoot<A> {
         ensures refused { IfErr result (λ refusal. (refusal ≡ Refusal.Exhausted) ⊎ (refusal ≡ Refusal.NoMemory)) }
     {
         let generation = manifest.generation();
-        if generation > LAST_GENERATION {
+        if generation > LAST_NUMBER {
             return Err(Refusal::Exhausted);
         }
         let text = manifest.encode(alloc)?;

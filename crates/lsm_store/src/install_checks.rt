@@ -8,8 +8,8 @@ ghost use Rattle.lsm_store.specs.Memory.{AreConsistent, state_of, work_of};
 ghost use Rattle.lsm_machine.specs.Work.{Install};
 ghost use Rattle.lsm_machine.specs.WorkRefusals.{work_refusal};
 
-use crate::checks::LAST_NUMBER;
 use crate::memory::Memory;
+use lsm_codec::LAST_NUMBER;
 use lsm_device::Refusal;
 use lsm_jobs::Written;
 use lsm_levels::{Levels, Run};
