@@ -21,7 +21,9 @@ pub(crate) fn begun(alloc: Global, operation: Op) -> Result<Batch, Refusal>
 
 /// Adds a put to a batch. Returns whether it was added: not where there is no batch, or it is full.
 pub(crate) fn took_put(batch: &mut Option<Batch>, key: &[u8], value: &[u8]) -> Result<bool, Refusal>
-    ensures { Takes (or_then (key_refusal key.now) (value_refusal value.now)) (record { key = key.now; value = Some value.now }) (operations_of batch.old) result (operations_of batch.new) }
+    ensures { Takes (or_then (key_refusal key.now) (value_refusal value.now))
+        (record { key = key.now; value = Some value.now }) (operations_of batch.old) result
+        (operations_of batch.new) }
 {
     match batch {
         Some(batch) if batch.text_len() < FULL => told(batch.put(key, value)),
@@ -31,7 +33,8 @@ pub(crate) fn took_put(batch: &mut Option<Batch>, key: &[u8], value: &[u8]) -> R
 
 /// Adds a delete to a batch. Returns whether it was added: not where there is no batch, or it is full.
 pub(crate) fn took_delete(batch: &mut Option<Batch>, key: &[u8]) -> Result<bool, Refusal>
-    ensures { Takes (key_refusal key.now) (record { key = key.now; value = None }) (operations_of batch.old) result (operations_of batch.new) }
+    ensures { Takes (key_refusal key.now) (record { key = key.now; value = None })
+        (operations_of batch.old) result (operations_of batch.new) }
 {
     match batch {
         Some(batch) if batch.text_len() < FULL => told(batch.delete(key)),

@@ -59,7 +59,8 @@ impl<D: Device> BufferedDb<D> {
     pub fn put(&mut self, key: &[u8], value: &[u8]) -> Result<(), Refusal>
         ensures { MatchResult result
             (λ _. Buffers (record { key = key.now; value = Some value.now }) self.old self.new)
-            (λ e. IsNotBuffered (or_then (key_refusal key.now) (value_refusal value.now)) e self.old self.new) }
+            (λ e. IsNotBuffered (or_then (key_refusal key.now) (value_refusal value.now)) e self.old
+            self.new) }
     {
         if took_put(&mut self.waiting, key, value)? {
             return Ok(());
@@ -118,10 +119,15 @@ impl<D: Device> BufferedDb<D> {
     /// The value of a key, `None` where it has none, with what waits, all of which is searched. Where an operation on the key waits, it
     /// fails only with `NoMemory`; else as [`Db::get`].
     pub fn get(&mut self, key: &[u8]) -> Result<Option<Vec<u8>>, Refusal>
-        ensures waiting { (operation : Operation) → last_on key.now self.old.waiting ≡ Some operation
-            → (self.new ≡ self.old) × UnlessNoMemory result (λ value. option_map (λ v. v.items) value ≡ operation.value) }
-        ensures committed { last_on key.now self.old.waiting ≡ None → (self.new.waiting ≡ self.old.waiting)
-            × Serves self.old.store (Get Now key.now) (reply_of (λ value. Value (option_map (λ v. v.items) value)) result) self.new.store }
+        ensures waiting { (operation : Operation)
+            → last_on key.now self.old.waiting ≡ Some operation
+            → (self.new ≡ self.old)
+            × UnlessNoMemory result (λ value. option_map (λ v. v.items) value ≡ operation.value) }
+        ensures committed { last_on key.now self.old.waiting ≡ None
+            → (self.new.waiting ≡ self.old.waiting)
+            × Serves self.old.store (Get Now key.now)
+            (reply_of (λ value. Value (option_map (λ v. v.items) value)) result)
+            self.new.store }
     {
         match last_on(&self.waiting, key) {
             Some(operation) => Ok(copied(self.db.alloc(), operation.value)?),

@@ -81,21 +81,34 @@ impl<D: Device> Db<D> {
 
         // Where it fails: with BadLimit for the cache before any device call, and else with what an opening fails with, for what the
         // device holds, NoMemory or Io. Nothing that a crash left is lost then.
-        ensures size { IsTrue (is_cache_size options.cache) → (IsDeviceSize (D.medium device).size → ⊥) → result ≡ Err (record { refusal = Refusal.BadGeometry; device = device }) }
-        ensures cache { is_cache_size options.cache ≡ false → result ≡ Err (record { refusal = Refusal.BadLimit; device = device }) }
-        ensures refused { IsTrue (is_cache_size options.cache) → IfErr result (λ e. IsOpeningRefusal e.refusal) }
-        ensures refusal { IsTrue (is_cache_size options.cache) → IsDeviceSize (D.medium device).size → IsTrue (D.medium device).lasting.tells → MatchResult result
+        ensures size { IsTrue (is_cache_size options.cache)
+            → (IsDeviceSize (D.medium device).size → ⊥)
+            → result ≡ Err (record { refusal = Refusal.BadGeometry; device = device }) }
+        ensures cache { is_cache_size options.cache ≡ false
+            → result ≡ Err (record { refusal = Refusal.BadLimit; device = device }) }
+        ensures refused { IsTrue (is_cache_size options.cache)
+            → IfErr result (λ e. IsOpeningRefusal e.refusal) }
+        ensures refusal { IsTrue (is_cache_size options.cache) → IsDeviceSize (D.medium device).size
+            → IsTrue (D.medium device).lasting.tells → MatchResult result
             (λ db. opening_refusal (seen (disk (D.medium device))) ≡ None)
-            (λ e. (opening_refusal (seen (disk (D.medium device))) ≡ Some e.refusal) ⊎ ((e.refusal ≡ Refusal.NoMemory) ⊎ (e.refusal ≡ Refusal.Io))) }
-        ensures fails { IsTrue (is_cache_size options.cache) → (log_sectors : ℕ) (left : CrashState) → IsTrue (D.medium device).lasting.tells → StandFor log_sectors left (seen (disk (D.medium device)))
-            → IfErr result (λ e. FailsToOpen (D.medium device) log_sectors left e.refusal (D.medium e.device)) }
+            (λ e. (opening_refusal (seen (disk (D.medium device))) ≡ Some e.refusal)
+            ⊎ ((e.refusal ≡ Refusal.NoMemory) ⊎ (e.refusal ≡ Refusal.Io))) }
+        ensures fails { IsTrue (is_cache_size options.cache) → (log_sectors : ℕ) (left : CrashState)
+            → IsTrue (D.medium device).lasting.tells
+            → StandFor log_sectors left (seen (disk (D.medium device)))
+            → IfErr result (λ e. FailsToOpen (D.medium device) log_sectors left e.refusal
+            (D.medium e.device)) }
 
         // The error is Io exactly where a device call faulted. It comes before any device call, or after a sync as the first one.
-        ensures faults { IfErr result (λ e. (D.medium e.device).calls.faults ≡ faults_after (is_no_fault e.refusal) (D.medium device).calls.faults) }
+        ensures faults { IfErr result
+            (λ e. (D.medium e.device).calls.faults
+            ≡ faults_after (is_no_fault e.refusal) (D.medium device).calls.faults) }
         ensures called { IsTrue (is_cache_size options.cache) → IsDeviceSize (D.medium device).size
-            → IfErr result (λ e. IsUncalled e.refusal (D.medium device) (D.medium e.device) ⊎ IsRefusedBehindSync (D.medium device) e.refusal (D.medium e.device)) }
+            → IfErr result (λ e. IsUncalled e.refusal (D.medium device) (D.medium e.device)
+            ⊎ IsRefusedBehindSync (D.medium device) e.refusal (D.medium e.device)) }
         ensures same_size { IfErr result (λ e. (D.medium e.device).size ≡ (D.medium device).size) }
-        ensures same_lasting { IfErr result (λ e. (D.medium e.device).lasting ≡ (D.medium device).lasting) }
+        ensures same_lasting { IfErr result
+            (λ e. (D.medium e.device).lasting ≡ (D.medium device).lasting) }
     {
         match Store::open(rt.alloc(), device, options.cache) {
             Ok(store) => Ok(Db::of(rt.alloc(), readied(rt.alloc(), store))),
@@ -133,7 +146,8 @@ impl<D: Device> Db<D> {
     /// is false, counted from 0; and with `Io` or `BadTable` for a read, which leaves the store running. `NoSpace` comes before the
     /// guards are tested.
     pub fn write_if(&mut self, guards: &[Guard], batch: &Batch) -> Result<u64, Refusal>
-        ensures writes { Writes (Some guards.now) batch.now self.old (reply_of Number result) self.new }
+        ensures writes { Writes (Some guards.now) batch.now self.old
+            (reply_of Number result) self.new }
     {
         write(
             self.alloc,
@@ -147,7 +161,9 @@ impl<D: Device> Db<D> {
     /// Puts a value under a key, and returns the sequence number of the batch. Fails with `BadKey` for a key outside 1 to 255 bytes,
     /// with `BadValue` for a value above 2,048 bytes, and as [`write`](Db::write).
     pub fn put(&mut self, key: &[u8], value: &[u8]) -> Result<u64, Refusal>
-        ensures writes { WritesOne (or_then (key_refusal key.now) (value_refusal value.now)) (record { key = key.now; value = Some value.now }) self.old (reply_of Number result) self.new }
+        ensures writes { WritesOne (or_then (key_refusal key.now) (value_refusal value.now))
+            (record { key = key.now; value = Some value.now }) self.old
+            (reply_of Number result) self.new }
     {
         put(self.alloc, &mut self.store, &mut self.upkeep, key, value)
     }
@@ -155,7 +171,8 @@ impl<D: Device> Db<D> {
     /// Deletes a key, and returns the sequence number of the batch. Fails with `BadKey` for a key outside 1 to 255 bytes, and
     /// as [`write`](Db::write).
     pub fn delete(&mut self, key: &[u8]) -> Result<u64, Refusal>
-        ensures writes { WritesOne (key_refusal key.now) (record { key = key.now; value = None }) self.old (reply_of Number result) self.new }
+        ensures writes { WritesOne (key_refusal key.now) (record { key = key.now; value = None })
+            self.old (reply_of Number result) self.new }
     {
         delete(self.alloc, &mut self.store, &mut self.upkeep, key)
     }
@@ -165,14 +182,16 @@ impl<D: Device> Db<D> {
     /// Fails with `Stopped`, with `BadKey` where the key has no byte or more than 255, with `Io`, with `BadTable` where a table on the
     /// device is invalid, and, where the key has a value, with `NoMemory`. That changes nothing.
     pub fn get(&mut self, key: &[u8]) -> Result<Option<Vec<u8>>, Refusal>
-        ensures serves { Serves self.old (Get Now key.now) (reply_of (λ value. Value (option_map (λ v. v.items) value)) result) self.new }
+        ensures serves { Serves self.old (Get Now key.now)
+            (reply_of (λ value. Value (option_map (λ v. v.items) value)) result) self.new }
     {
         self.store.get(At::Now, key)
     }
 
     /// The value that a key had when a snapshot was taken. Fails as [`get`](Db::get), and with `NoSuchSnapshot`, after `BadKey`.
     pub fn get_at(&mut self, snapshot: u64, key: &[u8]) -> Result<Option<Vec<u8>>, Refusal>
-        ensures serves { Serves self.old (Get (Snap snapshot) key.now) (reply_of (λ value. Value (option_map (λ v. v.items) value)) result) self.new }
+        ensures serves { Serves self.old (Get (Snap snapshot) key.now)
+            (reply_of (λ value. Value (option_map (λ v. v.items) value)) result) self.new }
     {
         self.store.get(At::Snap(snapshot), key)
     }
@@ -188,7 +207,9 @@ impl<D: Device> Db<D> {
         to: Option<&[u8]>,
         limit: u64,
     ) -> Result<Page, Refusal>
-        ensures serves { Serves self.old (Scan at from.now (option_map (λ to. to.now) to.entry) limit) (reply_of Rows result) self.new }
+        ensures serves { Serves self.old
+            (Scan at from.now (option_map (λ to. to.now) to.entry) limit)
+            (reply_of Rows result) self.new }
     {
         self.store.scan(at, from, to, limit)
     }

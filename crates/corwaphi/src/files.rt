@@ -54,7 +54,8 @@ impl Db<FileDevice> {
         path: &str,
         options: Options,
     ) -> Result<Db<FileDevice>, OpenDbError>
-        ensures { IfOk result (λ db. WasOpened options.cache db ⊎ WasMade options.sectors options.cache db) }
+        ensures { IfOk result (λ db. WasOpened options.cache db
+            ⊎ WasMade options.sectors options.cache db) }
     {
         let opened = Db::open(rt, path, options);
         if is_missing(&opened) {
@@ -78,7 +79,8 @@ fn made<R: Files<File = File> + AllocGlobal>(
     path: &str,
     options: Options,
 ) -> Result<FileDevice, OpenDbError>
-    ensures { IfOk result (λ device. (⟦<FileDevice as Device>⟧.medium device).size ≡ options.sectors) }
+    ensures { IfOk result (λ device. (⟦<FileDevice as Device>⟧.medium device).size
+        ≡ options.sectors) }
 {
     let (device, replacement) = FileDevice::create_beside(rt, path, options.sectors)?;
     match formatted(rt, device, options.log_sectors, replacement) {
@@ -93,7 +95,8 @@ fn over<R: AllocGlobal>(
     device: FileDevice,
     options: Options,
 ) -> Result<Db<FileDevice>, OpenDbError>
-    ensures { IfOk result (λ db. OpensDb options.cache (⟦<FileDevice as Device>⟧.medium device) db) }
+    ensures { IfOk result
+        (λ db. OpensDb options.cache (⟦<FileDevice as Device>⟧.medium device) db) }
 {
     match Db::on(rt, device, options) {
         Ok(db) => Ok(db),
@@ -108,7 +111,8 @@ fn formatted<R: Files<File = File> + AllocGlobal>(
     log_sectors: u16,
     replacement: Replacement,
 ) -> Result<FileDevice, OpenDbError>
-    ensures { IfOk result (λ made. (⟦<FileDevice as Device>⟧.medium made).size ≡ (⟦<FileDevice as Device>⟧.medium device).size) }
+    ensures { IfOk result (λ made. (⟦<FileDevice as Device>⟧.medium made).size
+        ≡ (⟦<FileDevice as Device>⟧.medium device).size) }
 {
     match format(rt.alloc(), device, log_sectors) {
         Ok(device) => {

@@ -19,7 +19,9 @@ pub(crate) fn put<D: Device>(
     key: &[u8],
     value: &[u8],
 ) -> Result<u64, Refusal>
-    ensures { WritesOne (or_then (key_refusal key.now) (value_refusal value.now)) (record { key = key.now; value = Some value.now }) store.old (reply_of Number result) store.new }
+    ensures { WritesOne (or_then (key_refusal key.now) (value_refusal value.now))
+        (record { key = key.now; value = Some value.now }) store.old
+        (reply_of Number result) store.new }
 {
     match Op::put(alloc, key, value) {
         Ok(operation) => write_one(alloc, store, upkeep, operation),
@@ -34,7 +36,8 @@ pub(crate) fn delete<D: Device>(
     upkeep: &mut Upkeep,
     key: &[u8],
 ) -> Result<u64, Refusal>
-    ensures { WritesOne (key_refusal key.now) (record { key = key.now; value = None }) store.old (reply_of Number result) store.new }
+    ensures { WritesOne (key_refusal key.now) (record { key = key.now; value = None }) store.old
+        (reply_of Number result) store.new }
 {
     match Op::delete(alloc, key) {
         Ok(operation) => write_one(alloc, store, upkeep, operation),

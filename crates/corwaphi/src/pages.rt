@@ -57,7 +57,8 @@ impl Pages {
     /// The next 64 rows, or as many as are left; `None` after the last page. An error leaves it as it was, so that it may be asked again:
     /// those of [`page`](Db::page) come first, then `NoMemory`.
     pub fn next_page<D: Device>(&mut self, db: &mut Db<D>) -> Result<Option<Page>, Refusal>
-        ensures { MatchResult result (λ page. TellsNext self.old page self.new db.old db.new) (λ e. StaysThere self.old e self.new db.old db.new) }
+        ensures { MatchResult result (λ page. TellsNext self.old page self.new db.old db.new)
+            (λ e. StaysThere self.old e self.new db.old db.new) }
     {
         let Some(from) = &self.from else {
             return Ok(None);
@@ -97,7 +98,8 @@ pub(crate) fn slice_of(key: &Option<Vec<u8>>) -> Option<&[u8]>
 }
 
 pub(crate) fn copied(alloc: Global, key: Option<&[u8]>) -> Result<Option<Vec<u8>>, AllocError>
-    ensures { IfOk result (λ copy. option_map (λ v. v.items) copy ≡ option_map (λ k. k.now) key.entry) }
+    ensures { IfOk result (λ copy. option_map (λ v. v.items) copy
+        ≡ option_map (λ k. k.now) key.entry) }
 {
     match key {
         Some(key) => Ok(Some(Vec::from_slice(alloc, key)?)),

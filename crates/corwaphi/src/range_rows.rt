@@ -34,7 +34,9 @@ impl<D: Device> Db<D> {
     ///
     /// Fails with `NoMemory`; other errors of reading rows come with the rows.
     pub fn rows(&mut self, from: &[u8], to: Option<&[u8]>) -> Result<RangeRows<'_, D>, Refusal>
-        ensures begins { IfOk result (λ rows. standing rows ≡ stands_before Now from.now (option_map (λ to. to.now) to.entry) self.old) }
+        ensures begins { IfOk result
+            (λ rows. standing rows
+            ≡ stands_before Now from.now (option_map (λ to. to.now) to.entry) self.old) }
         ensures calls { IfOk result (λ rows. calls_left rows ≡ 2 ^ 64 - 1) }
         ensures same_store { IfOk result (λ rows. lender rows ≡ self.entry.ghost_name) }
         ensures refused { IfErr result (λ e. e ≡ NoMemory) }
@@ -44,7 +46,9 @@ impl<D: Device> Db<D> {
 
     /// The rows of the present map whose keys begin with a prefix. Fails as [`rows`](Db::rows).
     pub fn rows_with_prefix(&mut self, prefix: &[u8]) -> Result<RangeRows<'_, D>, Refusal>
-        ensures begins { IfOk result (λ rows. standing rows ≡ stands_before Now prefix.now (behind_prefix prefix.now) self.old) }
+        ensures begins { IfOk result
+            (λ rows. standing rows
+            ≡ stands_before Now prefix.now (behind_prefix prefix.now) self.old) }
         ensures calls { IfOk result (λ rows. calls_left rows ≡ 2 ^ 64 - 1) }
         ensures same_store { IfOk result (λ rows. lender rows ≡ self.entry.ghost_name) }
         ensures refused { IfErr result (λ e. e ≡ NoMemory) }
@@ -60,7 +64,9 @@ impl<D: Device> Db<D> {
         from: &[u8],
         to: Option<&[u8]>,
     ) -> Result<RangeRows<'_, D>, Refusal>
-        ensures begins { IfOk result (λ rows. standing rows ≡ stands_before at from.now (option_map (λ to. to.now) to.entry) self.old) }
+        ensures begins { IfOk result
+            (λ rows. standing rows
+            ≡ stands_before at from.now (option_map (λ to. to.now) to.entry) self.old) }
         ensures calls { IfOk result (λ rows. calls_left rows ≡ 2 ^ 64 - 1) }
         ensures same_store { IfOk result (λ rows. lender rows ≡ self.entry.ghost_name) }
         ensures refused { IfErr result (λ e. e ≡ NoMemory) }
@@ -94,7 +100,8 @@ impl<D: Device> RangeRows<'_, D> {
 
     // Reads the next page where no row is left of the one before, and one is to come.
     fn read(&mut self) -> Result<(), Refusal>
-        ensures reads { MatchResult result (λ _. HasRead (standing self.old) (standing self.new)) (λ e. IsPageRefused (standing self.old) e (standing self.new)) }
+        ensures reads { MatchResult result (λ _. HasRead (standing self.old) (standing self.new))
+            (λ e. IsPageRefused (standing self.old) e (standing self.new)) }
         ensures same_store { lender self.new ≡ lender self.old }
         ensures calls { calls_left self.new ≡ calls_left self.old }
     {
@@ -162,7 +169,8 @@ fn next_key<'p>(from: &'p Vec<u8>, page: &'p Option<Page>) -> Option<&'p [u8]>
 
 // The row after the first `told` of a page, where there is one.
 fn row_behind<'p>(page: &'p Option<Page>, told: usize) -> Option<RowRef<'p>>
-    ensures first { IsFirst (option_map shown_row result) (rows_behind told page.now) (rows_behind (told + 1) page.now) }
+    ensures first { IsFirst (option_map shown_row result) (rows_behind told page.now)
+        (rows_behind (told + 1) page.now) }
     ensures fits { IfSome result (λ _. told + 1 < 2 ^ 64) }
 {
     match page {
@@ -173,7 +181,8 @@ fn row_behind<'p>(page: &'p Option<Page>, told: usize) -> Option<RowRef<'p>>
 
 // The row after the first `told` of a page's rows, where there is one.
 fn row_at<'p>(page: &'p Page, told: usize) -> Option<RowRef<'p>>
-    ensures first { IsFirst (option_map shown_row result) (drop told page.now.rows) (drop (told + 1) page.now.rows) }
+    ensures first { IsFirst (option_map shown_row result) (drop told page.now.rows)
+        (drop (told + 1) page.now.rows) }
     ensures fits { IfSome result (λ _. told + 1 < 2 ^ 64) }
 {
     let rows = page.rows();

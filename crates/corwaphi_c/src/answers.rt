@@ -63,7 +63,8 @@ pub(crate) fn at(snapshot: u64) -> At
 /// Copies bytes, where the room has place for them. The length is theirs either way.
 pub(crate) fn copy(bytes: &[u8], room: &mut [u8], size: &mut usize) -> u32
     ensures size { size.new ≡ length bytes.now }
-    ensures copied { ((result ≡ 0) × (take (length bytes.now) room.new ≡ bytes.now)) ⊎ ((result ≡ 33) × (length room.new < length bytes.now)) }
+    ensures copied { ((result ≡ 0) × (take (length bytes.now) room.new ≡ bytes.now))
+        ⊎ ((result ≡ 33) × (length room.new < length bytes.now)) }
 {
     let count = bytes.len();
     *size = count;
@@ -108,7 +109,8 @@ pub(crate) fn put_page(page: &Page, room: &mut [u8], told: &mut PageTold) -> u32
 
 // Puts rows from the front on. Returns the place after them; `None` where the room ends before.
 fn put_rows(rows: Rows<'_>, room: &mut [u8]) -> Option<usize>
-    ensures { ArePut 0 (flat_map row_text rows.entry) (list_any is_wide rows.entry) room.old result room.new }
+    ensures { ArePut 0 (flat_map row_text rows.entry) (list_any is_wide rows.entry) room.old result
+        room.new }
 {
     let mut at = 0;
     for row in rows {
@@ -119,7 +121,8 @@ fn put_rows(rows: Rows<'_>, room: &mut [u8]) -> Option<usize>
 
 // Puts the next key as a row with an empty value, where there is one.
 fn put_next(next: Option<&[u8]>, room: &mut [u8], at: usize) -> Option<usize>
-    ensures { ArePut at (next_text (option_map (λ key. key.now) next.entry)) (is_wide_next (option_map (λ key. key.now) next.entry)) room.old result room.new }
+    ensures { ArePut at (next_text (option_map (λ key. key.now) next.entry))
+        (is_wide_next (option_map (λ key. key.now) next.entry)) room.old result room.new }
 {
     match next {
         Some(key) => put_row(key, b"", room, at),
@@ -128,7 +131,8 @@ fn put_next(next: Option<&[u8]>, room: &mut [u8], at: usize) -> Option<usize>
 }
 
 fn put_row(key: &[u8], value: &[u8], room: &mut [u8], at: usize) -> Option<usize>
-    ensures { ArePut at (row_text (key.now, value.now)) (is_wide (key.now, value.now)) room.old result room.new }
+    ensures { ArePut at (row_text (key.now, value.now)) (is_wide (key.now, value.now)) room.old
+        result room.new }
 {
     let (Ok(key_length), Ok(value_length)) = (u16::try_from(key.len()), u16::try_from(value.len()))
     else {

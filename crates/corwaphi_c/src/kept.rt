@@ -22,7 +22,8 @@ pub struct Kept {
 impl Kept {
     /// Keeps a store, and puts the device of its call back.
     pub(crate) fn park<'a>(&mut self, store: Store<MappedDevice<'a>>, device: &mut MappedDevice<'a>)
-        ensures kept { (parked : StoreView) × IsMoved store.entry parked × (self.new.store ≡ Some parked) }
+        ensures kept { (parked : StoreView) × IsMoved store.entry parked
+            × (self.new.store ≡ Some parked) }
         ensures device { medium_on device.new ≡ store.entry.device }
     {
         let parked = ParkedDevice::new(store.sectors());

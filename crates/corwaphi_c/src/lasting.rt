@@ -23,7 +23,9 @@ pub extern "C" fn corwaphi_store_sync(
 ) -> u32
     ghost past: { List Disk }
     requires { IsShown handle.value.store image.now past }
-    ensures { MakesIn (Answers Sync (λ reply. IsDone reply result)) result (record { past = past; used = used.new; journal = journal.new }) handle.value.store (store_in slot.new.value) }
+    ensures { MakesIn (Answers Sync (λ reply. IsDone reply result)) result
+        (record { past = past; used = used.new; journal = journal.new }) handle.value.store
+        (store_in slot.new.value) }
 {
     let mut kept = handle.into_box();
     let answer = make(&mut kept, image, journal, used, None);
@@ -44,7 +46,9 @@ pub extern "C" fn corwaphi_store_sync_to(
 ) -> u32
     ghost past: { List Disk }
     requires { IsShown handle.value.store image.now past }
-    ensures { MakesIn (Answers (SyncTo number) (λ reply. IsDone reply result)) result (record { past = past; used = used.new; journal = journal.new }) handle.value.store (store_in slot.new.value) }
+    ensures { MakesIn (Answers (SyncTo number) (λ reply. IsDone reply result)) result
+        (record { past = past; used = used.new; journal = journal.new }) handle.value.store
+        (store_in slot.new.value) }
 {
     let mut kept = handle.into_box();
     let answer = make(&mut kept, image, journal, used, Some(number));
@@ -62,7 +66,9 @@ fn make(
 ) -> u32
     ghost past: { List Disk }
     requires { IsShown kept.old.store image.now past }
-    ensures { MakesIn (Answers (sync_of last) (λ reply. IsDone reply result)) result (record { past = past; used = used.new; journal = journal.new }) kept.old.store kept.new.store }
+    ensures { MakesIn (Answers (sync_of last) (λ reply. IsDone reply result)) result
+        (record { past = past; used = used.new; journal = journal.new }) kept.old.store
+        kept.new.store }
 {
     *used = 0;
     if journal.len() < JOURNAL_BYTES {

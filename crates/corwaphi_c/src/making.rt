@@ -31,7 +31,8 @@ pub extern "C" fn corwaphi_store_format(
 ) -> u32
     ghost past: { List Disk }
     requires { IsPast sectors [] past }
-    ensures { FormatsHere sectors log_sectors result (record { past = past; used = used.new; journal = journal.new }) }
+    ensures { FormatsHere sectors log_sectors result
+        (record { past = past; used = used.new; journal = journal.new }) }
 {
     // A format reads nothing.
     let mut device = MappedDevice::new(&[], journal, sectors);
@@ -74,7 +75,9 @@ pub extern "C" fn corwaphi_store_open(
 ) -> u32
     ghost past: { List Disk }
     requires { IsPast sectors image.now past }
-    ensures opens { 65664 ≤ length journal.old → Opens sectors cache (record { past = past; used = used.new; journal = journal.new }) result (store_in slot.new.value) }
+    ensures opens { 65664 ≤ length journal.old
+        → Opens sectors cache (record { past = past; used = used.new; journal = journal.new })
+        result (store_in slot.new.value) }
     ensures short { length journal.old < 65664 → (result ≡ 28) × (used.new ≡ 0) }
     ensures refused { (result ≡ 0 → ⊥) → slot.new ≡ slot.old }
 {
@@ -102,7 +105,11 @@ fn open_kept(
 ) -> Result<Box<Kept>, u32>
     ghost past: { List Disk }
     requires { IsPast sectors image.now past }
-    ensures { MatchResult result (λ kept. IsKeptOpened sectors cache (record { past = past; used = used.new; journal = journal.new }) kept.value.store) (λ answer. IsUnopened sectors cache (record { past = past; used = used.new; journal = journal.new }) answer) }
+    ensures { MatchResult result
+        (λ kept. IsKeptOpened sectors cache
+        (record { past = past; used = used.new; journal = journal.new }) kept.value.store)
+        (λ answer. IsUnopened sectors cache
+        (record { past = past; used = used.new; journal = journal.new }) answer) }
 {
     *used = 0;
     let kept = Kept {
@@ -129,7 +136,9 @@ fn open_mapped(
     device: &mut MappedDevice,
     cache: u32,
 ) -> Result<(), u32>
-    ensures { MatchResult result (λ _. OpensOn cache (medium_on device.old) (medium_on device.new) kept.new.store) (λ answer. IsRefusedOn cache answer (medium_on device.old) (medium_on device.new)) }
+    ensures { MatchResult result
+        (λ _. OpensOn cache (medium_on device.old) (medium_on device.new) kept.new.store)
+        (λ answer. IsRefusedOn cache answer (medium_on device.old) (medium_on device.new)) }
 {
     match open_on(alloc, device.take(), cache) {
         Ok(store) => {
@@ -146,7 +155,8 @@ fn open_mapped(
 
 // The store on a device, or why it can't be opened.
 fn open_on<D: Device>(alloc: Global, device: D, cache: u32) -> Result<Store<D>, (u32, D)>
-    ensures { MatchResult result (λ s. IsOpenedOn cache (D.medium device) s) (λ e. IsRefusedOn cache e.0 (D.medium device) (D.medium e.1)) }
+    ensures { MatchResult result (λ s. IsOpenedOn cache (D.medium device) s)
+        (λ e. IsRefusedOn cache e.0 (D.medium device) (D.medium e.1)) }
 {
     match Store::open(alloc, device, cache) {
         Ok(store) => Ok(store),

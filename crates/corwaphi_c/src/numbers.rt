@@ -67,7 +67,9 @@ pub extern "C" fn corwaphi_store_counts(
     batches: &mut u64,
     synced: &mut u64,
 ) -> u32
-    ensures told { (s : StoreView) → handle.value.store ≡ Some s → (result ≡ 0) × ((batches.new ≡ batch_count s.state.points) × (synced.new ≡ s.state.points.synced)) }
+    ensures told { (s : StoreView) → handle.value.store ≡ Some s
+        → (result ≡ 0) × ((batches.new ≡ batch_count s.state.points)
+        × (synced.new ≡ s.state.points.synced)) }
     ensures kept { slot.new.value ≡ Some handle.value }
 {
     let kept = handle.into_box();

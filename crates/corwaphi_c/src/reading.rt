@@ -26,7 +26,9 @@ pub extern "C" fn corwaphi_store_get(
 ) -> u32
     ghost past: { List Disk }
     requires { IsShown handle.value.store image.now past }
-    ensures { Makes (Answers (Get (at_of snapshot) key.now) (λ reply. IsValue reply result room.new size.new)) (no_journal past) handle.value.store (store_in slot.new.value) }
+    ensures { Makes (Answers (Get (at_of snapshot) key.now)
+        (λ reply. IsValue reply result room.new size.new)) (no_journal past) handle.value.store
+        (store_in slot.new.value) }
 {
     let mut kept = handle.into_box();
     let answer = get(&mut kept, image, at(snapshot), key, room, size);
@@ -37,7 +39,8 @@ pub extern "C" fn corwaphi_store_get(
 fn get(kept: &mut Kept, image: &[u8], at: At, key: &[u8], room: &mut [u8], size: &mut usize) -> u32
     ghost past: { List Disk }
     requires { IsShown kept.old.store image.now past }
-    ensures { Makes (Answers (Get at key.now) (λ reply. IsValue reply result room.new size.new)) (no_journal past) kept.old.store kept.new.store }
+    ensures { Makes (Answers (Get at key.now) (λ reply. IsValue reply result room.new size.new))
+        (no_journal past) kept.old.store kept.new.store }
 {
     let Some(parked) = kept.store.take() else {
         return code(Refusal::Stopped);
@@ -56,7 +59,8 @@ fn get_in<D: Device>(
     room: &mut [u8],
     size: &mut usize,
 ) -> u32
-    ensures { Answers (Get at key.now) (λ reply. IsValue reply result room.new size.new) store.old store.new }
+    ensures { Answers (Get at key.now) (λ reply. IsValue reply result room.new size.new) store.old
+        store.new }
 {
     match store.get(at, key) {
         Ok(Some(value)) => copy(&value, room, size),
@@ -82,7 +86,9 @@ pub extern "C" fn corwaphi_store_rows(
 ) -> u32
     ghost past: { List Disk }
     requires { IsShown handle.value.store image.now past }
-    ensures { Makes (Answers (Scan (at_of snapshot) from.now (end_of has_to to.now) limit) (λ reply. IsRows reply result room.new told.new)) (no_journal past) handle.value.store (store_in slot.new.value) }
+    ensures { Makes (Answers (Scan (at_of snapshot) from.now (end_of has_to to.now) limit)
+        (λ reply. IsRows reply result room.new told.new)) (no_journal past) handle.value.store
+        (store_in slot.new.value) }
 {
     let mut kept = handle.into_box();
     let to = end(to, has_to);
@@ -110,7 +116,9 @@ fn rows(
 ) -> u32
     ghost past: { List Disk }
     requires { IsShown kept.old.store image.now past }
-    ensures { Makes (Answers (Scan at from.now (option_map (λ to. to.now) to.entry) limit) (λ reply. IsRows reply result room.new told.new)) (no_journal past) kept.old.store kept.new.store }
+    ensures { Makes (Answers (Scan at from.now (option_map (λ to. to.now) to.entry) limit)
+        (λ reply. IsRows reply result room.new told.new)) (no_journal past) kept.old.store
+        kept.new.store }
 {
     let Some(parked) = kept.store.take() else {
         return code(Refusal::Stopped);
@@ -131,7 +139,8 @@ fn rows_in<D: Device>(
     room: &mut [u8],
     told: &mut PageTold,
 ) -> u32
-    ensures { Answers (Scan at from.now (option_map (λ to. to.now) to.entry) limit) (λ reply. IsRows reply result room.new told.new) store.old store.new }
+    ensures { Answers (Scan at from.now (option_map (λ to. to.now) to.entry) limit)
+        (λ reply. IsRows reply result room.new told.new) store.old store.new }
 {
     match store.scan(at, from, to, limit) {
         Ok(page) => put_page(&page, room, told),
@@ -142,7 +151,8 @@ fn rows_in<D: Device>(
 /// Takes a snapshot of the present map, and tells its number. Fails as `Store::snapshot`.
 #[unsafe(no_mangle)]
 pub extern "C" fn corwaphi_store_snapshot(handle: Handle, slot: &mut Slot, out: &mut u64) -> u32
-    ensures { MakesParked (Answers Snapshot (λ reply. IsNumber reply result out.new)) handle.value.store (store_in slot.new.value) }
+    ensures { MakesParked (Answers Snapshot (λ reply. IsNumber reply result out.new))
+        handle.value.store (store_in slot.new.value) }
 {
     let mut kept = handle.into_box();
     let answer = take_snapshot(&mut kept, out);
@@ -151,7 +161,8 @@ pub extern "C" fn corwaphi_store_snapshot(handle: Handle, slot: &mut Slot, out: 
 }
 
 fn take_snapshot(kept: &mut Kept, out: &mut u64) -> u32
-    ensures { MakesParked (Answers Snapshot (λ reply. IsNumber reply result out.new)) kept.old.store kept.new.store }
+    ensures { MakesParked (Answers Snapshot (λ reply. IsNumber reply result out.new)) kept.old.store
+        kept.new.store }
 {
     match &mut kept.store {
         Some(store) => number(store.snapshot(), out),
@@ -162,7 +173,8 @@ fn take_snapshot(kept: &mut Kept, out: &mut u64) -> u32
 /// Forgets a snapshot. Fails as `Store::release`.
 #[unsafe(no_mangle)]
 pub extern "C" fn corwaphi_store_release(handle: Handle, slot: &mut Slot, snapshot: u64) -> u32
-    ensures { MakesParked (Answers (Release snapshot) (λ reply. IsDone reply result)) handle.value.store (store_in slot.new.value) }
+    ensures { MakesParked (Answers (Release snapshot) (λ reply. IsDone reply result))
+        handle.value.store (store_in slot.new.value) }
 {
     let mut kept = handle.into_box();
     let answer = release(&mut kept, snapshot);
@@ -171,7 +183,8 @@ pub extern "C" fn corwaphi_store_release(handle: Handle, slot: &mut Slot, snapsh
 }
 
 fn release(kept: &mut Kept, snapshot: u64) -> u32
-    ensures { MakesParked (Answers (Release snapshot) (λ reply. IsDone reply result)) kept.old.store kept.new.store }
+    ensures { MakesParked (Answers (Release snapshot) (λ reply. IsDone reply result)) kept.old.store
+        kept.new.store }
 {
     match &mut kept.store {
         Some(store) => done(store.release(snapshot)),

@@ -32,7 +32,9 @@ pub extern "C" fn corwaphi_store_work(
 ) -> u32
     ghost past: { List Disk }
     requires { IsShown handle.value.store image.now past }
-    ensures { MakesIn IsUpkept result (record { past = past; used = used.new; journal = journal.new }) handle.value.store (store_in slot.new.value) }
+    ensures { MakesIn IsUpkept result
+        (record { past = past; used = used.new; journal = journal.new }) handle.value.store
+        (store_in slot.new.value) }
 {
     let mut kept = handle.into_box();
     let answer = work(alloc, &mut kept, image, journal, used, did);
@@ -50,7 +52,9 @@ fn work(
 ) -> u32
     ghost past: { List Disk }
     requires { IsShown kept.old.store image.now past }
-    ensures { MakesIn IsUpkept result (record { past = past; used = used.new; journal = journal.new }) kept.old.store kept.new.store }
+    ensures { MakesIn IsUpkept result
+        (record { past = past; used = used.new; journal = journal.new }) kept.old.store
+        kept.new.store }
 {
     *used = 0;
     *did = 0;

@@ -39,7 +39,10 @@ pub extern "C" fn corwaphi_store_put(
 ) -> u32
     ghost past: { List Disk }
     requires { IsShown handle.value.store image.now past }
-    ensures { CommitsOne (or_then (key_refusal key.now) (value_refusal value.now)) (record { key = key.now; value = Some value.now }) result number.new (record { past = past; used = used.new; journal = journal.new }) handle.value.store (store_in slot.new.value) }
+    ensures { CommitsOne (or_then (key_refusal key.now) (value_refusal value.now))
+        (record { key = key.now; value = Some value.now }) result number.new
+        (record { past = past; used = used.new; journal = journal.new }) handle.value.store
+        (store_in slot.new.value) }
 {
     let mut kept = handle.into_box();
     let answer = put(alloc, &mut kept, image, journal, used, key, value, number);
@@ -59,7 +62,10 @@ fn put(
 ) -> u32
     ghost past: { List Disk }
     requires { IsShown kept.old.store image.now past }
-    ensures { CommitsOne (or_then (key_refusal key.now) (value_refusal value.now)) (record { key = key.now; value = Some value.now }) result number.new (record { past = past; used = used.new; journal = journal.new }) kept.old.store kept.new.store }
+    ensures { CommitsOne (or_then (key_refusal key.now) (value_refusal value.now))
+        (record { key = key.now; value = Some value.now }) result number.new
+        (record { past = past; used = used.new; journal = journal.new }) kept.old.store
+        kept.new.store }
 {
     *used = 0;
     match Op::put(alloc, key, value) {
@@ -82,7 +88,9 @@ pub extern "C" fn corwaphi_store_delete(
 ) -> u32
     ghost past: { List Disk }
     requires { IsShown handle.value.store image.now past }
-    ensures { CommitsOne (key_refusal key.now) (record { key = key.now; value = None }) result number.new (record { past = past; used = used.new; journal = journal.new }) handle.value.store (store_in slot.new.value) }
+    ensures { CommitsOne (key_refusal key.now) (record { key = key.now; value = None }) result
+        number.new (record { past = past; used = used.new; journal = journal.new })
+        handle.value.store (store_in slot.new.value) }
 {
     let mut kept = handle.into_box();
     let answer = delete(alloc, &mut kept, image, journal, used, key, number);
@@ -101,7 +109,9 @@ fn delete(
 ) -> u32
     ghost past: { List Disk }
     requires { IsShown kept.old.store image.now past }
-    ensures { CommitsOne (key_refusal key.now) (record { key = key.now; value = None }) result number.new (record { past = past; used = used.new; journal = journal.new }) kept.old.store kept.new.store }
+    ensures { CommitsOne (key_refusal key.now) (record { key = key.now; value = None }) result
+        number.new (record { past = past; used = used.new; journal = journal.new }) kept.old.store
+        kept.new.store }
 {
     *used = 0;
     match Op::delete(alloc, key) {
@@ -122,7 +132,9 @@ fn commit_one(
 ) -> u32
     ghost past: { List Disk }
     requires { IsShown kept.old.store image.now past }
-    ensures { CommitsOne None operation result number.new (record { past = past; used = used.new; journal = journal.new }) kept.old.store kept.new.store }
+    ensures { CommitsOne None operation result number.new
+        (record { past = past; used = used.new; journal = journal.new }) kept.old.store
+        kept.new.store }
 {
     *used = 0;
     match Batch::new(alloc, operation) {
@@ -146,7 +158,9 @@ pub extern "C" fn corwaphi_store_write(
 ) -> u32
     ghost past: { List Disk }
     requires { IsShown handle.value.store image.now past }
-    ensures { CommitsText text.now result number.new (record { past = past; used = used.new; journal = journal.new }) handle.value.store (store_in slot.new.value) }
+    ensures { CommitsText text.now result number.new
+        (record { past = past; used = used.new; journal = journal.new }) handle.value.store
+        (store_in slot.new.value) }
 {
     let mut kept = handle.into_box();
     let answer = write(alloc, &mut kept, image, journal, used, text, number);
@@ -165,7 +179,9 @@ fn write(
 ) -> u32
     ghost past: { List Disk }
     requires { IsShown kept.old.store image.now past }
-    ensures { CommitsText text.now result number.new (record { past = past; used = used.new; journal = journal.new }) kept.old.store kept.new.store }
+    ensures { CommitsText text.now result number.new
+        (record { past = past; used = used.new; journal = journal.new }) kept.old.store
+        kept.new.store }
 {
     *used = 0;
     match read_batch(alloc, text) {
@@ -176,7 +192,8 @@ fn write(
 
 // The batch that a text says.
 fn read_batch(alloc: Global, text: &[u8]) -> Result<Batch, u32>
-    ensures { MatchResult result (λ batch. batch_of text.now ≡ Some batch) (λ answer. IsUnread (batch_of text.now) answer) }
+    ensures { MatchResult result (λ batch. batch_of text.now ≡ Some batch)
+        (λ answer. IsUnread (batch_of text.now) answer) }
 {
     match Batch::decode(alloc, text) {
         Ok(Some(batch)) => Ok(batch),
@@ -195,7 +212,9 @@ fn commit(
 ) -> u32
     ghost past: { List Disk }
     requires { IsShown kept.old.store image.now past }
-    ensures { MakesIn (Commits None batch.now (λ reply. IsNumber reply result out.new) result) result (record { past = past; used = used.new; journal = journal.new }) kept.old.store kept.new.store }
+    ensures { MakesIn (Commits None batch.now (λ reply. IsNumber reply result out.new) result)
+        result (record { past = past; used = used.new; journal = journal.new }) kept.old.store
+        kept.new.store }
 {
     *used = 0;
     if journal.len() < JOURNAL_BYTES {
@@ -219,7 +238,8 @@ fn commit_in<D: Device>(
     batch: &Batch,
     out: &mut u64,
 ) -> u32
-    ensures { Commits None batch.now (λ reply. IsNumber reply result out.new) result store.old store.new }
+    ensures { Commits None batch.now (λ reply. IsNumber reply result out.new) result store.old
+        store.new }
 {
     match upkeep.admit(store, batch) {
         Verdict::Commit => number(without_log_full(store.commit(batch)), out),
@@ -246,7 +266,9 @@ pub extern "C" fn corwaphi_store_write_if(
 ) -> u32
     ghost past: { List Disk }
     requires { IsShown handle.value.store image.now past }
-    ensures { CommitsTextIf guards.now text.now result number.new place.new (record { past = past; used = used.new; journal = journal.new }) handle.value.store (store_in slot.new.value) }
+    ensures { CommitsTextIf guards.now text.now result number.new place.new
+        (record { past = past; used = used.new; journal = journal.new }) handle.value.store
+        (store_in slot.new.value) }
 {
     let mut kept = handle.into_box();
     let answer = write_if(
@@ -269,7 +291,9 @@ fn write_if(
 ) -> u32
     ghost past: { List Disk }
     requires { IsShown kept.old.store image.now past }
-    ensures { CommitsTextIf guards.now text.now result number.new place.new (record { past = past; used = used.new; journal = journal.new }) kept.old.store kept.new.store }
+    ensures { CommitsTextIf guards.now text.now result number.new place.new
+        (record { past = past; used = used.new; journal = journal.new }) kept.old.store
+        kept.new.store }
 {
     *used = 0;
     let guards = match read_guards(alloc, guards) {
@@ -294,7 +318,11 @@ fn commit_if(
 ) -> u32
     ghost past: { List Disk }
     requires { IsShown kept.old.store image.now past }
-    ensures { MakesIn (Commits (Some guards.now) batch.now (λ reply. IsNumber reply result number.new × IsPlace reply place.new) result) result (record { past = past; used = used.new; journal = journal.new }) kept.old.store kept.new.store }
+    ensures { MakesIn
+        (Commits (Some guards.now) batch.now
+        (λ reply. IsNumber reply result number.new × IsPlace reply place.new) result) result
+        (record { past = past; used = used.new; journal = journal.new }) kept.old.store
+        kept.new.store }
 {
     *used = 0;
     if journal.len() < JOURNAL_BYTES {
@@ -320,7 +348,9 @@ fn commit_under<D: Device>(
     out: &mut u64,
     place: &mut u8,
 ) -> u32
-    ensures { Commits (Some guards.now) batch.now (λ reply. IsNumber reply result out.new × IsPlace reply place.new) result store.old store.new }
+    ensures { Commits (Some guards.now) batch.now
+        (λ reply. IsNumber reply result out.new × IsPlace reply place.new) result store.old
+        store.new }
 {
     match upkeep.admit(store, batch) {
         Verdict::Commit => {
@@ -346,7 +376,8 @@ fn tell_place(reply: &Result<u64, Refusal>, out: &mut u8)
 
 // The guards that a text says.
 fn read_guards(alloc: Global, text: &[u8]) -> Result<Vec<Guard>, u32>
-    ensures { MatchResult result (λ guards. guards_of text.now ≡ Some guards.items) (λ answer. IsUnread (guards_of text.now) answer) }
+    ensures { MatchResult result (λ guards. guards_of text.now ≡ Some guards.items)
+        (λ answer. IsUnread (guards_of text.now) answer) }
 {
     if text.is_empty() {
         return Ok(Vec::new(alloc));
@@ -359,7 +390,8 @@ fn read_guards(alloc: Global, text: &[u8]) -> Result<Vec<Guard>, u32>
 
 // The operations of a batch as guards.
 fn guards_in(alloc: Global, batch: &Batch) -> Result<Vec<Guard>, u32>
-    ensures { MatchResult result (λ guards. guards.items ≡ map condition_of batch.now) (λ answer. answer ≡ 1) }
+    ensures { MatchResult result (λ guards. guards.items ≡ map condition_of batch.now)
+        (λ answer. answer ≡ 1) }
 {
     let mut guards = Vec::new(alloc);
     for operation in batch.operations() {
@@ -376,7 +408,11 @@ fn push_guard(
     value: Option<&[u8]>,
 ) -> Result<(), u32>
     requires { IsChange key.now (option_map (λ v. v.now) value) }
-    ensures { MatchResult result (λ _. guards.new.items ≡ guards.old.items ++ record { key = key.now; value = option_map (λ v. v.now) value.entry } ∷ []) (λ answer. answer ≡ 1) }
+    ensures { MatchResult result
+        (λ _. guards.new.items
+        ≡ guards.old.items
+        ++ record { key = key.now; value = option_map (λ v. v.now) value.entry } ∷ [])
+        (λ answer. answer ≡ 1) }
 {
     let guard = match value {
         Some(value) => Guard::holds(alloc, key, value),

@@ -23,7 +23,9 @@ pub(crate) fn lives<R: AllocGlobal>(
     device: MemDevice,
     lives: &[DbLife],
 ) -> Result<(Vec<Vec<Reply>>, MemDevice), Refusal>
-    ensures { IfOk result (λ given. AreLed (map life_of lives.now) (medium_in device) (replies_by given.0.items) (medium_in given.1)) }
+    ensures { IfOk result
+        (λ given. AreLed (map life_of lives.now) (medium_in device) (replies_by given.0.items)
+        (medium_in given.1)) }
 {
     let mut replies = places(rt.alloc(), lives)?;
     let device = live_each(rt, device, lives, &mut replies);
@@ -50,7 +52,8 @@ fn live_each<R: AllocGlobal>(
     places: &mut Vec<Vec<Reply>>,
 ) -> MemDevice
     requires places { HavePlaces lives.now places.old.items }
-    ensures { AreLed (map life_of lives.now) (medium_in device) (replies_by places.new.items) (medium_in result) }
+    ensures { AreLed (map life_of lives.now) (medium_in device) (replies_by places.new.items)
+        (medium_in result) }
 {
     let mut device = device;
     for (index, life) in lives.iter().enumerate() {
@@ -68,7 +71,8 @@ fn live<R: AllocGlobal>(
 ) -> MemDevice
     requires none_yet { replies.old.items ≡ [] }
     requires room { vec_len life.now.calls + 1 ≤ vec_capacity replies.old }
-    ensures { LeadsTo (life_of life.now) (medium_in device) (map reply_of replies.new.items) (medium_in result) }
+    ensures { LeadsTo (life_of life.now) (medium_in device) (map reply_of replies.new.items)
+        (medium_in result) }
 {
     let mut device = device;
     set_fuse(&mut device, life.fuse);
@@ -102,7 +106,8 @@ fn open_and_serve<R: AllocGlobal, D: Device>(
     requires tells { IsTrue (D.medium device).lasting.tells }
     requires none_yet { replies.old.items ≡ [] }
     requires room { length calls.now + 1 ≤ vec_capacity replies.old }
-    ensures { IsLed (D.medium device) (map call_of calls.now) (map reply_of replies.new.items) (D.medium result) }
+    ensures { IsLed (D.medium device) (map call_of calls.now) (map reply_of replies.new.items)
+        (D.medium result) }
 {
     match opened(rt, device) {
         Ok(mut db) => {
@@ -121,7 +126,8 @@ fn open_and_serve<R: AllocGlobal, D: Device>(
 // Opens the `Db` on a device that tells what it holds.
 fn opened<R: AllocGlobal, D: Device>(rt: &R, device: D) -> Result<Db<D>, OpenOnError<D>>
     requires tells { IsTrue (D.medium device).lasting.tells }
-    ensures { MatchResult result (λ db. BeginsDb (D.medium device) db) (λ e. FailsOn (D.medium device) e.refusal (D.medium e.device)) }
+    ensures { MatchResult result (λ db. BeginsDb (D.medium device) db)
+        (λ e. FailsOn (D.medium device) e.refusal (D.medium e.device)) }
 {
     let options = Options {
         cache: CACHE_BLOCKS,
@@ -133,7 +139,8 @@ fn opened<R: AllocGlobal, D: Device>(rt: &R, device: D) -> Result<Db<D>, OpenOnE
 // Makes the calls one after another, and adds their replies.
 fn serve_each<D: Device>(db: &mut Db<D>, calls: &[DbCall], replies: &mut Vec<Reply>)
     requires room { vec_len replies.old + length calls.now ≤ vec_capacity replies.old }
-    ensures { AddsReplies db.old (map call_of calls.now) (map reply_of replies.old.items) (map reply_of replies.new.items) db.new }
+    ensures { AddsReplies db.old (map call_of calls.now) (map reply_of replies.old.items)
+        (map reply_of replies.new.items) db.new }
 {
     for call in calls {
         let reply = serve(db, call);
@@ -144,7 +151,8 @@ fn serve_each<D: Device>(db: &mut Db<D>, calls: &[DbCall], replies: &mut Vec<Rep
 // Each call is answered that the store is stopped.
 fn refuse_each(calls: &[DbCall], replies: &mut Vec<Reply>)
     requires room { vec_len replies.old + length calls.now ≤ vec_capacity replies.old }
-    ensures { map reply_of replies.new.items ≡ map reply_of replies.old.items ++ map (λ _. Refused Stopped) (map call_of calls.now) }
+    ensures { map reply_of replies.new.items ≡ map reply_of replies.old.items
+        ++ map (λ _. Refused Stopped) (map call_of calls.now) }
 {
     for _call in calls {
         replies.push_reserved(Reply::Refused(Refusal::Stopped));

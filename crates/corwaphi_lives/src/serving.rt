@@ -76,7 +76,8 @@ fn done(answered: Result<(), Refusal>) -> Reply
 }
 
 fn value(answered: Result<Option<Vec<u8>>, Refusal>) -> Reply
-    ensures { reply_of result ≡ reply_by (λ value. Value (option_map (λ v. v.items) value)) answered }
+    ensures { reply_of result ≡ reply_by (λ value. Value (option_map (λ v. v.items) value))
+        answered }
 {
     match answered {
         Ok(value) => Reply::Value(value),

@@ -26,14 +26,19 @@ pub fn lives_of_db<R: AllocGlobal>(
 ) -> Result<(Vec<Vec<Reply>>, MemDevice), Refusal>
     // In the words of calls, replies, batches and maps: each life begins with the map after a beginning of the accepted batches, with every
     // acknowledged one, and each reply is one that the map allows, or that there is no room for a batch.
-    ensures batches { IfOk result (λ answer. KeepsDbBatches log_sectors (calls_by given.now) (replies_by answer.0.items)) }
+    ensures batches { IfOk result
+        (λ answer. KeepsDbBatches log_sectors (calls_by given.now) (replies_by answer.0.items)) }
 
     // The device at the end holds the map that is kept.
-    ensures device { IfOk result (λ answer. KeepsDbBatchesOn log_sectors (calls_by given.now) (replies_by answer.0.items) (disk (medium_in answer.1))) }
+    ensures device { IfOk result
+        (λ answer. KeepsDbBatchesOn log_sectors (calls_by given.now) (replies_by answer.0.items)
+        (disk (medium_in answer.1))) }
 
     // And the replies come of just this device: it was formatted, and in each life the fuse was set, the `Db` was opened, each call did what
     // it does, and the crash kept what the mask says.
-    ensures led { IfOk result (λ answer. AreLedOn sectors log_sectors (map life_of given.now) (replies_by answer.0.items) (medium_in answer.1)) }
+    ensures led { IfOk result
+        (λ answer. AreLedOn sectors log_sectors (map life_of given.now) (replies_by answer.0.items)
+        (medium_in answer.1)) }
 {
     let device = MemDevice::new(rt.alloc(), sectors)?;
     let device = match format(rt.alloc(), device, log_sectors) {

@@ -35,7 +35,8 @@ fn hear_and_make<B: SessionName, R: Wait>(
     seen: Seen<Global, B>,
     call: Call,
 ) -> Result<Reply, Refusal>
-    ensures { IfOk result (λ reply. ComesBehind seen me.old.number (call_of call) (told_of reply) me.new.seen) }
+    ensures { IfOk result
+        (λ reply. ComesBehind seen me.old.number (call_of call) (told_of reply) me.new.seen) }
 {
     me.hear(shared, seen);
     let reply = me.call(rt, shared, call)?;
@@ -52,12 +53,15 @@ pub fn call_behind<B: SessionName + Send + Sync, R: Threads + Wait + Sync>(
     first: Call,
     second: Call,
 ) -> Result<(Client<Global, B>, Reply, Reply), Refusal>
-    ensures { IfOk result (λ r. StandsBehind one.number (call_of first) (told_of r.1) two.old.number (call_of second) (told_of r.2) two.new.seen) }
+    ensures { IfOk result
+        (λ r. StandsBehind one.number (call_of first) (told_of r.1) two.old.number (call_of second)
+        (told_of r.2) two.new.seen) }
 {
     let (told, _) = join(
         rt,
         || -> Result<(Client<Global, B>, Reply, Seen<Global, B>), Refusal>
-            ensures { IfOk result (λ r. MakesCall one (call_of first) (told_of r.1) r.0 × (r.2 ≡ r.0.seen)) }
+            ensures { IfOk result
+                (λ r. MakesCall one (call_of first) (told_of r.1) r.0 × (r.2 ≡ r.0.seen)) }
         { make_and_tell(rt, shared, one, first) },
         || {},
     );

@@ -19,7 +19,8 @@ fn two_of<B: SessionName>(
     clients: Vec<Client<Global, B>>,
 ) -> Option<(Client<Global, B>, Client<Global, B>)>
     requires { clients.items ≡ newcomers B.id.begin 2 }
-    ensures { IfSome result (λ r. (r.0 ≡ known B.id.begin 0 [] []) × (r.1 ≡ known B.id.begin 1 [] [])) }
+    ensures { IfSome result (λ r. (r.0 ≡ known B.id.begin 0 [] [])
+        × (r.1 ≡ known B.id.begin 1 [] [])) }
 {
     let mut clients = clients;
     let two = clients.pop()?;

@@ -68,7 +68,9 @@ fn store_both<R: Threads + Wait + Sync>(
     requires sectors { store.state.log_sectors ≡ 128 }
     requires backed { IsBacked store }
     requires apart { first_key.now ≢ second_key.now }
-    ensures { IfOk result (λ ended. OutlastCrashes (first_key.now, first_value.now) (second_key.now, second_value.now) ended) }
+    ensures { IfOk result
+        (λ ended. OutlastCrashes (first_key.now, first_value.now) (second_key.now, second_value.now)
+        ended) }
 {
     let one = batch_of(alloc, first_key, first_value)?;
     let two = batch_of(alloc, second_key, second_value)?;
@@ -88,8 +90,11 @@ fn find_both(
     first_key: &[u8],
     second_key: &[u8],
 ) -> Result<(Option<Vec<u8>>, Option<Vec<u8>>), Refusal>
-    ensures { (first_value second_value : Bytes) → StandsForBoth (first_key.now, first_value) (second_key.now, second_value) (seen (disk (medium_in device)))
-        → IfOk result (λ found. (option_map (λ v. v.items) found.0 ≡ Some first_value) × (option_map (λ v. v.items) found.1 ≡ Some second_value)) }
+    ensures { (first_value second_value : Bytes)
+        → StandsForBoth (first_key.now, first_value) (second_key.now, second_value)
+        (seen (disk (medium_in device)))
+        → IfOk result (λ found. (option_map (λ v. v.items) found.0 ≡ Some first_value)
+        × (option_map (λ v. v.items) found.1 ≡ Some second_value)) }
 {
     let mut store = match Store::open(alloc, device, 256) {
         Ok(store) => store,
@@ -108,8 +113,10 @@ fn find_after_a_crash(
     second_key: &[u8],
     keep: &[bool],
 ) -> Result<(Option<Vec<u8>>, Option<Vec<u8>>), Refusal>
-    ensures { (first_value second_value : Bytes) → OutlastCrashes (first_key.now, first_value) (second_key.now, second_value) store
-        → IfOk result (λ found. (option_map (λ v. v.items) found.0 ≡ Some first_value) × (option_map (λ v. v.items) found.1 ≡ Some second_value)) }
+    ensures { (first_value second_value : Bytes)
+        → OutlastCrashes (first_key.now, first_value) (second_key.now, second_value) store
+        → IfOk result (λ found. (option_map (λ v. v.items) found.0 ≡ Some first_value)
+        × (option_map (λ v. v.items) found.1 ≡ Some second_value)) }
 {
     let device = store.into_device().crash(keep);
     find_both(alloc, device, first_key, second_key)
@@ -128,7 +135,8 @@ pub fn share<R: Threads + Wait + Sync>(
     keep: &[bool],
 ) -> Result<(Option<Vec<u8>>, Option<Vec<u8>>), Refusal>
     requires { first_key.now ≢ second_key.now }
-    ensures { IfOk result (λ found. (option_map (λ v. v.items) found.0 ≡ Some first_value.now) × (option_map (λ v. v.items) found.1 ≡ Some second_value.now)) }
+    ensures { IfOk result (λ found. (option_map (λ v. v.items) found.0 ≡ Some first_value.now)
+        × (option_map (λ v. v.items) found.1 ≡ Some second_value.now)) }
 {
     let store = new_store(alloc, device)?;
     let store = store_both(
@@ -156,7 +164,8 @@ pub fn share_beside_a_worker<R: Threads + Wait + Sync>(
     keep: &[bool],
 ) -> Result<(Option<Vec<u8>>, Option<Vec<u8>>), Refusal>
     requires { first_key.now ≢ second_key.now }
-    ensures { IfOk result (λ found. (option_map (λ v. v.items) found.0 ≡ Some first_value.now) × (option_map (λ v. v.items) found.1 ≡ Some second_value.now)) }
+    ensures { IfOk result (λ found. (option_map (λ v. v.items) found.0 ≡ Some first_value.now)
+        × (option_map (λ v. v.items) found.1 ≡ Some second_value.now)) }
 {
     let store = new_store(alloc, device)?;
     let store = store_both(

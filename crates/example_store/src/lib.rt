@@ -24,7 +24,9 @@ use std::alloc::Global;
 // Puts a batch and makes it durable.
 fn put_synced(store: &mut Store<MemDevice>, batch: &Batch) -> Result<(), Refusal>
     ensures backed { OnOk result (IsBacked store.old → IsBacked store.new) }
-    ensures state { OnOk result ((number : ℕ) × (store.new.state ≡ next (next store.old.state (Commit batch.now) (Number number)) Sync Done)) }
+    ensures state { OnOk result
+        ((number : ℕ) × (store.new.state
+        ≡ next (next store.old.state (Commit batch.now) (Number number)) Sync Done)) }
 {
     store.commit(batch)?;
     store.sync()?;
@@ -33,7 +35,8 @@ fn put_synced(store: &mut Store<MemDevice>, batch: &Batch) -> Result<(), Refusal
 
 // Looks a key up in the store on a device.
 fn look_up(alloc: Global, device: MemDevice, key: &[u8]) -> Result<Option<Vec<u8>>, Refusal>
-    ensures { (left : CrashState) → StandFor 128 left (seen (disk (medium_in device))) → IfOk result (λ found. option_map (λ v. v.items) found ≡ finite.get left.map key.now) }
+    ensures { (left : CrashState) → StandFor 128 left (seen (disk (medium_in device)))
+        → IfOk result (λ found. option_map (λ v. v.items) found ≡ finite.get left.map key.now) }
 {
     let mut store = match Store::open(alloc, device, 256) {
         Ok(store) => store,

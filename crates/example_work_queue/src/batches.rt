@@ -36,7 +36,8 @@ pub(crate) fn finishes(alloc: Global, number: u64) -> Result<Batch, Refusal>
 
 /// The row of the last number is still this one, or still absent.
 pub(crate) fn still_last(alloc: Global, row: &Option<Vec<u8>>) -> Result<Guard, Refusal>
-    ensures { IfOk result (λ guard. guard ≡ record { key = last_key; value = option_map (λ v. v.items) row.now }) }
+    ensures { IfOk result (λ guard. guard
+        ≡ record { key = last_key; value = option_map (λ v. v.items) row.now }) }
 {
     match row {
         Some(row) => Ok(Guard::holds(alloc, LAST_KEY, row)?),
@@ -46,14 +47,16 @@ pub(crate) fn still_last(alloc: Global, row: &Option<Vec<u8>>) -> Result<Guard, 
 
 /// The task of a number still waits, with these bytes.
 pub(crate) fn still_waits(alloc: Global, number: u64, task: &[u8]) -> Result<Guard, Refusal>
-    ensures { IfOk result (λ guard. guard ≡ record { key = waiting_key number; value = Some task.now }) }
+    ensures { IfOk result (λ guard. guard
+        ≡ record { key = waiting_key number; value = Some task.now }) }
 {
     Ok(Guard::holds(alloc, &waiting_key(number), task)?)
 }
 
 /// It is still claimed, with these bytes.
 pub(crate) fn still_claimed(alloc: Global, number: u64, task: &[u8]) -> Result<Guard, Refusal>
-    ensures { IfOk result (λ guard. guard ≡ record { key = claimed_key number; value = Some task.now }) }
+    ensures { IfOk result (λ guard. guard
+        ≡ record { key = claimed_key number; value = Some task.now }) }
 {
     Ok(Guard::holds(alloc, &claimed_key(number), task)?)
 }

@@ -61,7 +61,9 @@ impl<D: Device> Queue<D> {
         ensures commits { MatchResult result
             (λ number. HasCommitted (Adds number task.now) self.old self.new)
             (λ refusal. IsRefused (AddsTask task.now) refusal self.old self.new) }
-        ensures adds { HoldsQueue self.old → IfOk result (λ number. IsAddedNext number task.now (map_in self.old) (map_in self.new)) }
+        ensures adds { HoldsQueue self.old
+            → IfOk result (λ number. IsAddedNext number task.now (map_in self.old)
+            (map_in self.new)) }
         ensures same { IfErr result (λ refusal. map_in self.new ≡ map_in self.old) }
         ensures holds { HoldsQueue self.old → HoldsQueue self.new }
     {
@@ -83,7 +85,8 @@ impl<D: Device> Queue<D> {
     /// it claimed.
     pub fn claim(&mut self) -> Result<Option<(u64, Vec<u8>)>, Refusal>
         ensures commits { MatchResult result
-            (λ found. MatchOption found (Asks self.old self.new) (λ f. HasCommitted (Claims f.0 f.1.items) self.old self.new))
+            (λ found. MatchOption found (Asks self.old self.new)
+            (λ f. HasCommitted (Claims f.0 f.1.items) self.old self.new))
             (λ refusal. IsRefused ClaimsOne refusal self.old self.new) }
         ensures claims { HoldsQueue self.old → IfOk result (λ found. MatchOption found
             (NoneWaits (map_in self.old) × (map_in self.new ≡ map_in self.old))
@@ -111,7 +114,9 @@ impl<D: Device> Queue<D> {
         ensures commits { MatchResult result
             (λ finished. HasFinished finished number self.old self.new)
             (λ refusal. IsRefused (λ deed. deed ≡ Finishes number) refusal self.old self.new) }
-        ensures finishes { HoldsQueue self.old → IfOk result (λ finished. IsFinishedNow finished number (map_in self.old) (map_in self.new)) }
+        ensures finishes { HoldsQueue self.old
+            → IfOk result (λ finished. IsFinishedNow finished number (map_in self.old)
+            (map_in self.new)) }
         ensures same { IfErr result (λ refusal. map_in self.new ≡ map_in self.old) }
         ensures holds { HoldsQueue self.old → HoldsQueue self.new }
     {

@@ -77,7 +77,8 @@ fn number_behind(key: &[u8]) -> Option<u64>
 
 /// The task in the first row of a page, with its number. A key of another length is `BadKey`.
 pub(crate) fn first_task(alloc: Global, page: &Page) -> Result<Option<(u64, Vec<u8>)>, Refusal>
-    ensures first { IfOk result (λ found. option_map (λ f. (f.0, f.1.items)) found ≡ first_task page.now.rows) }
+    ensures first { IfOk result
+        (λ found. option_map (λ f. (f.0, f.1.items)) found ≡ first_task page.now.rows) }
     ensures fits { IfOk result (λ found. IfSome found (λ f. f.0 < 2 ^ 64)) }
 {
     match page.rows().get(0) {

@@ -64,10 +64,14 @@ impl<A: Allocator> BlockBytes<A> {
     /// Reads a block, as [`read_block`] does.
     pub(crate) fn read<D: Device>(&mut self, device: &mut D, sector: u32) -> Result<(), Fault>
         requires { sector + 8 ≤ (D.medium device.old).size }
-        ensures given { IsTrue (D.medium device.old).lasting.tells → OnOk result (self.new ≡ block_at (seen (disk (D.medium device.old))) sector) }
-        ensures counted { OnOk result ((D.medium device.new).calls ≡ after_reads 8 (D.medium device.old).calls) }
-        ensures faulted { OnErr result (FaultsAmong 8 (D.medium device.old).calls (D.medium device.new).calls) }
-        ensures unchanged { IsTrue (D.medium device.old).lasting.tells → (D.medium device.new).history ≡ (D.medium device.old).history }
+        ensures given { IsTrue (D.medium device.old).lasting.tells
+            → OnOk result (self.new ≡ block_at (seen (disk (D.medium device.old))) sector) }
+        ensures counted { OnOk result
+            ((D.medium device.new).calls ≡ after_reads 8 (D.medium device.old).calls) }
+        ensures faulted { OnErr result
+            (FaultsAmong 8 (D.medium device.old).calls (D.medium device.new).calls) }
+        ensures unchanged { IsTrue (D.medium device.old).lasting.tells
+            → (D.medium device.new).history ≡ (D.medium device.old).history }
         ensures same_size { (D.medium device.new).size ≡ (D.medium device.old).size }
         ensures same_lasting { (D.medium device.new).lasting ≡ (D.medium device.old).lasting }
     {

@@ -67,8 +67,10 @@ impl<A: Allocator + Clone> Cache<A> {
         requires { sector + 8 ≤ (D.medium device.old).size }
 
         // A block that is kept is read from the cache, whatever the device holds, and any other from the device.
-        ensures kept { OnOk result (IfSome (bytes_of (named_block table block) self.old) (λ bytes. out.new ≡ bytes)) }
-        ensures read { IsTrue (D.medium device.old).lasting.tells → OnOk result (bytes_of (named_block table block) self.old ≡ None
+        ensures kept { OnOk result
+            (IfSome (bytes_of (named_block table block) self.old) (λ bytes. out.new ≡ bytes)) }
+        ensures read { IsTrue (D.medium device.old).lasting.tells
+            → OnOk result (bytes_of (named_block table block) self.old ≡ None
             → out.new ≡ block_at (seen (disk (D.medium device.old))) sector) }
 
         // It is then the most recently used block, unless memory for it was refused.
@@ -78,25 +80,33 @@ impl<A: Allocator + Clone> Cache<A> {
 
         // Where the kept blocks are those of the device, so is this one, and they are so after the call.
         ensures answers { (place : Name → Option ℕ) → place (named_block table block) ≡ Some sector
-            → IsTrue (D.medium device.old).lasting.tells → IsFresh place (seen (disk (D.medium device.old))) self.old
+            → IsTrue (D.medium device.old).lasting.tells
+            → IsFresh place (seen (disk (D.medium device.old))) self.old
             → OnOk result (out.new ≡ block_at (seen (disk (D.medium device.old))) sector) }
         ensures fresh { (place : Name → Option ℕ) → place (named_block table block) ≡ Some sector
-            → IsTrue (D.medium device.old).lasting.tells → IsFresh place (seen (disk (D.medium device.old))) self.old
+            → IsTrue (D.medium device.old).lasting.tells
+            → IsFresh place (seen (disk (D.medium device.old))) self.old
             → IsFresh place (seen (disk (D.medium device.new))) self.new }
-        ensures numbered { (number : ℕ) → table < number → IsNumberedBelow number self.old → IsNumberedBelow number self.new }
+        ensures numbered { (number : ℕ) → table < number → IsNumberedBelow number self.old
+            → IsNumberedBelow number self.new }
 
         // It fails only where a read faulted, its last call, of a block that isn't kept.
         ensures refused { IfErr result (λ refusal. refusal ≡ Refusal.Io) }
         ensures absent { OnErr result (bytes_of (named_block table block) self.old ≡ None) }
-        ensures faulted { OnErr result (FaultsAmong 8 (D.medium device.old).calls (D.medium device.new).calls) }
-        ensures faults { (D.medium device.new).calls.faults ≡ faults_after (faultless result) (D.medium device.old).calls.faults }
+        ensures faulted { OnErr result
+            (FaultsAmong 8 (D.medium device.old).calls (D.medium device.new).calls) }
+        ensures faults { (D.medium device.new).calls.faults
+            ≡ faults_after (faultless result) (D.medium device.old).calls.faults }
         ensures stops { OnErr result (IsTrue (D.medium device.new).calls.last_faulted) }
 
         // A block that isn't kept is read, and nothing else is done to the device.
         ensures counted { OnOk result
-            ((D.medium device.new).calls ≡ after_reads (sectors_read (named_block table block) self.old) (D.medium device.old).calls) }
+            ((D.medium device.new).calls
+            ≡ after_reads (sectors_read (named_block table block) self.old)
+            (D.medium device.old).calls) }
         ensures calls { AtMost 8 0 0 (D.medium device.old).calls (D.medium device.new).calls }
-        ensures unchanged { IsTrue (D.medium device.old).lasting.tells → (D.medium device.new).history ≡ (D.medium device.old).history }
+        ensures unchanged { IsTrue (D.medium device.old).lasting.tells
+            → (D.medium device.new).history ≡ (D.medium device.old).history }
         ensures same_size { (D.medium device.new).size ≡ (D.medium device.old).size }
         ensures same_lasting { (D.medium device.new).lasting ≡ (D.medium device.old).lasting }
     {
@@ -118,7 +128,8 @@ impl<A: Allocator + Clone> Cache<A> {
 
         // A block that is kept is that of the cache, whatever the device holds, and any other is read from the device.
         ensures kept { OnOk result (IfSome (bytes_of name self.old) (λ bytes. out.new ≡ bytes)) }
-        ensures read { IsTrue (D.medium device.old).lasting.tells → OnOk result (bytes_of name self.old ≡ None
+        ensures read { IsTrue (D.medium device.old).lasting.tells
+            → OnOk result (bytes_of name self.old ≡ None
             → out.new ≡ block_at (seen (disk (D.medium device.old))) sector) }
 
         // It is then the most recently used block, unless memory for it was refused.
@@ -128,12 +139,15 @@ impl<A: Allocator + Clone> Cache<A> {
         // It fails only where a read faulted, its last call, of a block that isn't kept.
         ensures refused { IfErr result (λ refusal. refusal ≡ Refusal.Io) }
         ensures absent { OnErr result (bytes_of name self.old ≡ None) }
-        ensures faulted { OnErr result (FaultsAmong 8 (D.medium device.old).calls (D.medium device.new).calls) }
+        ensures faulted { OnErr result
+            (FaultsAmong 8 (D.medium device.old).calls (D.medium device.new).calls) }
 
         // A block that isn't kept is read, and nothing else is done to the device.
         ensures counted { OnOk result
-            ((D.medium device.new).calls ≡ after_reads (sectors_read name self.old) (D.medium device.old).calls) }
-        ensures unchanged { IsTrue (D.medium device.old).lasting.tells → (D.medium device.new).history ≡ (D.medium device.old).history }
+            ((D.medium device.new).calls
+            ≡ after_reads (sectors_read name self.old) (D.medium device.old).calls) }
+        ensures unchanged { IsTrue (D.medium device.old).lasting.tells
+            → (D.medium device.new).history ≡ (D.medium device.old).history }
         ensures same_size { (D.medium device.new).size ≡ (D.medium device.old).size }
         ensures same_lasting { (D.medium device.new).lasting ≡ (D.medium device.old).lasting }
     {

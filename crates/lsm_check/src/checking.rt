@@ -49,14 +49,20 @@ fn count_batches<A: Allocator + Clone, D: Device>(
     requires fits { IsManifest loaded.now.manifest }
     requires inside { first_region + 3 * loaded.now.log_sectors ≤ (D.medium device.old).size }
     ensures counted { IsTrue (D.medium device.old).lasting.tells → IfOk result
-        (HasBatches loaded.now.log_sectors (seen (disk (D.medium device.old))) loaded.now.manifest) }
+        (HasBatches loaded.now.log_sectors (seen (disk (D.medium device.old)))
+        loaded.now.manifest) }
     ensures fair { (batches : ℕ) → IsTrue (D.medium device.old).lasting.tells
-        → HasBatches loaded.now.log_sectors (seen (disk (D.medium device.old))) loaded.now.manifest batches → IfErr result IsNoMemoryOrIo }
+        → HasBatches loaded.now.log_sectors (seen (disk (D.medium device.old))) loaded.now.manifest
+        batches → IfErr result IsNoMemoryOrIo }
     ensures refusal { IsTrue (D.medium device.old).lasting.tells → IfErr result
-        (IsRegionsRefusal loaded.now.log_sectors (seen (disk (D.medium device.old))) loaded.now.manifest) }
+        (IsRegionsRefusal loaded.now.log_sectors (seen (disk (D.medium device.old)))
+        loaded.now.manifest) }
     ensures refused { IfErr result IsCheckRefusal }
-    ensures device { ReadsAtMost (6 * loaded.now.log_sectors) (faultless result) (D.medium device.old) (D.medium device.new) }
-    ensures whole { OnOk result (ReadsBetween (3 * loaded.now.log_sectors) (6 * loaded.now.log_sectors) (D.medium device.old).calls (D.medium device.new).calls) }
+    ensures device { ReadsAtMost (6 * loaded.now.log_sectors) (faultless result)
+        (D.medium device.old) (D.medium device.new) }
+    ensures whole { OnOk result
+        (ReadsBetween (3 * loaded.now.log_sectors) (6 * loaded.now.log_sectors)
+        (D.medium device.old).calls (D.medium device.new).calls) }
 {
     let replayed = replay_regions(alloc, device, loaded.log_sectors, &loaded.manifest)?;
     let count = replayed.count;
@@ -72,16 +78,27 @@ fn read_named<A: Allocator + Clone, D: Device>(
     alloc: &A,
     device: &mut D,
 ) -> Result<Named<A>, Refusal>
-    ensures named { IfOk result (λ n. AreNamed (D.medium device.old).size n.loaded.log_sectors n.loaded.manifest n.tables.levels n.tables.extents) }
+    ensures named { IfOk result
+        (λ n. AreNamed (D.medium device.old).size n.loaded.log_sectors n.loaded.manifest
+        n.tables.levels n.tables.extents) }
     ensures told { IsTrue (D.medium device.old).lasting.tells → IfOk result (λ n.
-        AreToldBy n.loaded.log_sectors (seen (disk (D.medium device.old))) n.loaded.manifest n.tables.levels n.batches) }
-    ensures fair { (log_sectors : ℕ) (left : CrashState) → IsTrue (D.medium device.old).lasting.tells → StandFor log_sectors left (seen (disk (D.medium device.old)))
+        AreToldBy n.loaded.log_sectors (seen (disk (D.medium device.old))) n.loaded.manifest
+        n.tables.levels n.batches) }
+    ensures fair { (log_sectors : ℕ) (left : CrashState)
+        → IsTrue (D.medium device.old).lasting.tells
+        → StandFor log_sectors left (seen (disk (D.medium device.old)))
         → IfErr result IsNoMemoryOrIo }
-    ensures refusal { IsTrue (D.medium device.old).lasting.tells → IfErr result (IsReadRefusal (seen (disk (D.medium device.old)))) }
+    ensures refusal { IsTrue (D.medium device.old).lasting.tells
+        → IfErr result (IsReadRefusal (seen (disk (D.medium device.old)))) }
     ensures refused { IfErr result IsCheckRefusal }
-    ensures reads { IsTrue (D.medium device.old).lasting.tells → AtMost (69698 + 8 * uncounted_by (root_of (seen (disk (D.medium device.old))))) 0 0 (D.medium device.old).calls (D.medium device.new).calls }
-    ensures device { ReadsAtMost 593986 (faultless result) (D.medium device.old) (D.medium device.new) }
-    ensures whole { IfOk result (λ n. ReadsBetween (3 * n.loaded.log_sectors) 593986 (D.medium device.old).calls (D.medium device.new).calls) }
+    ensures reads { IsTrue (D.medium device.old).lasting.tells
+        → AtMost (69698 + 8 * uncounted_by (root_of (seen (disk (D.medium device.old))))) 0 0
+        (D.medium device.old).calls (D.medium device.new).calls }
+    ensures device { ReadsAtMost 593986 (faultless result) (D.medium device.old)
+        (D.medium device.new) }
+    ensures whole { IfOk result
+        (λ n. ReadsBetween (3 * n.loaded.log_sectors) 593986 (D.medium device.old).calls
+        (D.medium device.new).calls) }
 {
     let loaded = load_counted(alloc, device)?;
     let tables = read_tables(alloc, device, loaded.log_sectors, &loaded.manifest)?;
@@ -99,8 +116,11 @@ fn report_of<A: Allocator>(named: &Named<A>, entries: u64) -> Report
     ensures batches { result.batches ≡ named.now.batches }
     ensures tables { result.tables ≡ length named.now.loaded.manifest.tables }
     ensures entries { result.entries ≡ entries }
-    ensures free_blocks { (size : ℕ) → Held (data_blocks_of size named.now.loaded.log_sectors) named.now.loaded.manifest.tables named.now.tables.extents
-        → result.free_blocks ≡ blocks_in_none (data_blocks_of size named.now.loaded.log_sectors) named.now.loaded.manifest.tables }
+    ensures free_blocks { (size : ℕ)
+        → Held (data_blocks_of size named.now.loaded.log_sectors) named.now.loaded.manifest.tables
+        named.now.tables.extents
+        → result.free_blocks ≡ blocks_in_none (data_blocks_of size named.now.loaded.log_sectors)
+        named.now.loaded.manifest.tables }
 {
     let manifest = &named.loaded.manifest;
     Report {
@@ -114,16 +134,26 @@ fn report_of<A: Allocator>(named: &Named<A>, entries: u64) -> Report
 
 // Checks a device of a fair size.
 fn check_all<A: Allocator + Clone, D: Device>(alloc: &A, device: &mut D) -> Result<Report, Finding>
-    ensures yes { IsTrue (D.medium device.old).lasting.tells → IfOk result (IsImage (D.medium device.old).size (seen (disk (D.medium device.old)))) }
-    ensures image { (log_sectors : ℕ) (left : CrashState) → IsTrue (D.medium device.old).lasting.tells → StandFor log_sectors left (seen (disk (D.medium device.old)))
+    ensures yes { IsTrue (D.medium device.old).lasting.tells
+        → IfOk result (IsImage (D.medium device.old).size (seen (disk (D.medium device.old)))) }
+    ensures image { (log_sectors : ℕ) (left : CrashState)
+        → IsTrue (D.medium device.old).lasting.tells
+        → StandFor log_sectors left (seen (disk (D.medium device.old)))
         → IfErr result IsNoVerdict }
-    ensures first { IsTrue (D.medium device.old).lasting.tells → FindsRefusal (seen (disk (D.medium device.old))) result }
-    ensures later { IsTrue (D.medium device.old).lasting.tells → FindsLaterSector (seen (disk (D.medium device.old))) result }
-    ensures found { IsTrue (D.medium device.old).lasting.tells → IfErr result (IsFoundIn (seen (disk (D.medium device.old)))) }
+    ensures first { IsTrue (D.medium device.old).lasting.tells
+        → FindsRefusal (seen (disk (D.medium device.old))) result }
+    ensures later { IsTrue (D.medium device.old).lasting.tells
+        → FindsLaterSector (seen (disk (D.medium device.old))) result }
+    ensures found { IsTrue (D.medium device.old).lasting.tells
+        → IfErr result (IsFoundIn (seen (disk (D.medium device.old)))) }
     ensures refused { IfErr result IsCheckFinding }
-    ensures reads { IsTrue (D.medium device.old).lasting.tells → AtMost (593986 + 8 * uncounted_by (root_of (seen (disk (D.medium device.old))))) 0 0 (D.medium device.old).calls (D.medium device.new).calls }
-    ensures device { ReadsAtMost 1118274 (is_faultless result) (D.medium device.old) (D.medium device.new) }
-    ensures whole { IsReadFor (D.medium device.old).size (D.medium device.old).calls (D.medium device.new).calls result }
+    ensures reads { IsTrue (D.medium device.old).lasting.tells
+        → AtMost (593986 + 8 * uncounted_by (root_of (seen (disk (D.medium device.old))))) 0 0
+        (D.medium device.old).calls (D.medium device.new).calls }
+    ensures device { ReadsAtMost 1118274 (is_faultless result) (D.medium device.old)
+        (D.medium device.new) }
+    ensures whole { IsReadFor (D.medium device.old).size (D.medium device.old).calls
+        (D.medium device.new).calls result }
 {
     let named = read_named(alloc, device)?;
     let area = ROOT_SECTORS + 3 * named.loaded.log_sectors as u32;
@@ -146,23 +176,30 @@ fn check_all<A: Allocator + Clone, D: Device>(alloc: &A, device: &mut D) -> Resu
 /// that failed, its last, `Io`.
 pub fn check<A: Allocator + Clone, D: Device>(alloc: A, device: &mut D) -> Result<Report, Finding>
     // After a yes the sectors are the image of a store, so that an opening recovers it, and these are its numbers.
-    ensures yes { IsTrue (D.medium device.old).lasting.tells → IfOk result (IsImage (D.medium device.old).size (seen (disk (D.medium device.old)))) }
+    ensures yes { IsTrue (D.medium device.old).lasting.tells
+        → IfOk result (IsImage (D.medium device.old).size (seen (disk (D.medium device.old)))) }
 
     // Of the image of a store it finds nothing wrong.
-    ensures image { (log_sectors : ℕ) (left : CrashState) → IsTrue (D.medium device.old).lasting.tells → StandFor log_sectors left (seen (disk (D.medium device.old)))
+    ensures image { (log_sectors : ℕ) (left : CrashState)
+        → IsTrue (D.medium device.old).lasting.tells
+        → StandFor log_sectors left (seen (disk (D.medium device.old)))
         → IfErr result IsNoVerdict }
-    ensures size { (IsDeviceSize (D.medium device.old).size → ⊥) → (result ≡ Err (Finding.Refused Refusal.BadGeometry)) × (device.new ≡ device.old) }
+    ensures size { (IsDeviceSize (D.medium device.old).size → ⊥)
+        → (result ≡ Err (Finding.Refused Refusal.BadGeometry)) × (device.new ≡ device.old) }
 
     // What an opening is refused with for what the device holds, but for the last generation, is found first, if there is a verdict;
     // and then a log sector of a later generation.
-    ensures first { IsTrue (D.medium device.old).lasting.tells → IsDeviceSize (D.medium device.old).size
+    ensures first { IsTrue (D.medium device.old).lasting.tells
+        → IsDeviceSize (D.medium device.old).size
         → FindsRefusal (seen (disk (D.medium device.old))) result }
-    ensures later { IsTrue (D.medium device.old).lasting.tells → IsDeviceSize (D.medium device.old).size
+    ensures later { IsTrue (D.medium device.old).lasting.tells
+        → IsDeviceSize (D.medium device.old).size
         → FindsLaterSector (seen (disk (D.medium device.old))) result }
 
     // A refusal is that of an opening, or of a log sector of a later generation. All else is found only after both, of a table that
     // the manifest names: its number is told, or BadTable.
-    ensures found { IsTrue (D.medium device.old).lasting.tells → IsDeviceSize (D.medium device.old).size
+    ensures found { IsTrue (D.medium device.old).lasting.tells
+        → IsDeviceSize (D.medium device.old).size
         → IfErr result (IsFoundIn (seen (disk (D.medium device.old)))) }
 
     // Of any device, whether it tells what it holds or not, a refusal is one of these.
@@ -171,9 +208,13 @@ pub fn check<A: Allocator + Clone, D: Device>(alloc: A, device: &mut D) -> Resul
     // The device is only read, and a read faulted exactly where it answers Io, its last. Data blocks of tables whose records tell
     // no deletes are read twice at most, as in version 1 of the format all are, and in version 2 none. A yes has read all regions
     // and data blocks.
-    ensures reads { IsTrue (D.medium device.old).lasting.tells → AtMost (593986 + 8 * uncounted_by (root_of (seen (disk (D.medium device.old))))) 0 0 (D.medium device.old).calls (D.medium device.new).calls }
-    ensures device { ReadsAtMost 1118274 (is_faultless result) (D.medium device.old) (D.medium device.new) }
-    ensures whole { IsReadFor (D.medium device.old).size (D.medium device.old).calls (D.medium device.new).calls result }
+    ensures reads { IsTrue (D.medium device.old).lasting.tells
+        → AtMost (593986 + 8 * uncounted_by (root_of (seen (disk (D.medium device.old))))) 0 0
+        (D.medium device.old).calls (D.medium device.new).calls }
+    ensures device { ReadsAtMost 1118274 (is_faultless result) (D.medium device.old)
+        (D.medium device.new) }
+    ensures whole { IsReadFor (D.medium device.old).size (D.medium device.old).calls
+        (D.medium device.new).calls result }
 {
     root_laws();
     if !is_device_size(device.sectors()) {

@@ -23,7 +23,9 @@ use std::alloc::Allocator;
 // The entries that the bytes of a block spell. `BadTable` exactly where they spell none.
 fn decode<A: Allocator + Clone>(alloc: &A, block: &[u8; 4_096]) -> Result<Vec<Entry<A>, A>, Refusal>
     ensures spelled { IfOk result (λ entries. block_of block.now ≡ Some entries.items) }
-    ensures refused { IfErr result (λ refusal. (refusal ≡ Refusal.NoMemory) ⊎ ((refusal ≡ Refusal.BadTable) × (block_of block.now ≡ None))) }
+    ensures refused { IfErr result
+        (λ refusal. (refusal ≡ Refusal.NoMemory)
+        ⊎ ((refusal ≡ Refusal.BadTable) × (block_of block.now ≡ None))) }
 {
     Ok(decode_data_block(alloc, block)?)
 }
@@ -37,10 +39,13 @@ fn read_entries<D: Device, A: Allocator + Clone>(
     requires { sector + 8 ≤ (D.medium device.old).size }
     ensures spelled { IsTrue (D.medium device.old).lasting.tells → IfOk result (λ entries.
         block_of (block_at (seen (disk (D.medium device.old))) sector) ≡ Some entries.items) }
-    ensures refused { IfErr result (λ refusal. IsNoMemoryOrIo refusal ⊎ ((refusal ≡ Refusal.BadTable)
-        × (IsTrue (D.medium device.old).lasting.tells → block_of (block_at (seen (disk (D.medium device.old))) sector) ≡ None))) }
+    ensures refused { IfErr result
+        (λ refusal. IsNoMemoryOrIo refusal ⊎ ((refusal ≡ Refusal.BadTable)
+        × (IsTrue (D.medium device.old).lasting.tells
+        → block_of (block_at (seen (disk (D.medium device.old))) sector) ≡ None))) }
     ensures device { ReadsAtMost 8 (faultless result) (D.medium device.old) (D.medium device.new) }
-    ensures whole { OnOk result (ReadsBetween 8 8 (D.medium device.old).calls (D.medium device.new).calls) }
+    ensures whole { OnOk result
+        (ReadsBetween 8 8 (D.medium device.old).calls (D.medium device.new).calls) }
 {
     let mut block = [0; 4_096];
     read_block(device, sector, &mut block)?;
@@ -70,15 +75,21 @@ fn add_block<D: Device, A: Allocator + Clone>(
 ) -> Result<bool, Refusal>
     requires within { LiesWithin (D.medium device.old).size area table.now }
     requires place { place < length table.now.outline.edges }
-    ensures read { IsTrue (D.medium device.old).lasting.tells → IfOk result (λ ends. ends ≡ true → (before ≡ true
+    ensures read { IsTrue (D.medium device.old).lasting.tells
+        → IfOk result (λ ends. ends ≡ true → (before ≡ true
         → AreRead (seen (disk (D.medium device.old))) area place table.now entries.old.items)
-        → AreRead (seen (disk (D.medium device.old))) area (place + 1) table.now entries.new.items) }
-    ensures stored { IsTrue (D.medium device.old).lasting.tells → IsStored (seen (disk (D.medium device.old))) area table.now → before ≡ true
+        → AreRead (seen (disk (D.medium device.old))) area
+        (place + 1) table.now entries.new.items) }
+    ensures stored { IsTrue (D.medium device.old).lasting.tells
+        → IsStored (seen (disk (D.medium device.old))) area table.now → before ≡ true
         → IfOk result (λ ends. ends ≡ true) }
-    ensures fair { IsTrue (D.medium device.old).lasting.tells → IsStored (seen (disk (D.medium device.old))) area table.now → IfErr result IsNoMemoryOrIo }
+    ensures fair { IsTrue (D.medium device.old).lasting.tells
+        → IsStored (seen (disk (D.medium device.old))) area table.now
+        → IfErr result IsNoMemoryOrIo }
     ensures refused { IfErr result IsBlockRefusal }
     ensures device { ReadsAtMost 8 (faultless result) (D.medium device.old) (D.medium device.new) }
-    ensures whole { OnOk result (ReadsBetween 8 8 (D.medium device.old).calls (D.medium device.new).calls) }
+    ensures whole { OnOk result
+        (ReadsBetween 8 8 (D.medium device.old).calls (D.medium device.new).calls) }
 {
     let edges = table.table().edges();
     let sector = area + 8 * (table.first_block() + place as u32);
@@ -98,11 +109,16 @@ pub(crate) fn entries_of<D: Device, A: Allocator + Clone>(
 ) -> Result<Vec<Entry<A>, A>, Finding>
     requires { LiesWithin (D.medium device.old).size area table.now }
     ensures read { IsTrue (D.medium device.old).lasting.tells → IfOk result (λ entries.
-        AreRead (seen (disk (D.medium device.old))) area (length table.now.outline.edges) table.now entries.items) }
-    ensures fair { IsTrue (D.medium device.old).lasting.tells → IsStored (seen (disk (D.medium device.old))) area table.now → IfErr result IsNoVerdict }
+        AreRead (seen (disk (D.medium device.old))) area (length table.now.outline.edges) table.now
+        entries.items) }
+    ensures fair { IsTrue (D.medium device.old).lasting.tells
+        → IsStored (seen (disk (D.medium device.old))) area table.now → IfErr result IsNoVerdict }
     ensures refused { IfErr result (IsOfTable table.now.number) }
-    ensures device { ReadsAtMost 512 (is_faultless result) (D.medium device.old) (D.medium device.new) }
-    ensures whole { OnOk result (ReadsBetween (8 * length table.now.outline.edges) 512 (D.medium device.old).calls (D.medium device.new).calls) }
+    ensures device { ReadsAtMost 512 (is_faultless result) (D.medium device.old)
+        (D.medium device.new) }
+    ensures whole { OnOk result
+        (ReadsBetween (8 * length table.now.outline.edges) 512 (D.medium device.old).calls
+        (D.medium device.new).calls) }
 {
     let mut entries = Vec::new(alloc.clone()?);
     let mut ends = true;

@@ -25,10 +25,13 @@ fn is_above(sector: &[u8; 512], generation: u64) -> bool
 // Reads a sector, and tells whether it is one of a log whose epoch is above the generation.
 fn reads_above<D: Device>(device: &mut D, at: u32, generation: u64) -> Result<bool, Refusal>
     requires { at < (D.medium device.old).size }
-    ensures told { IsTrue (D.medium device.old).lasting.tells → IfOk result (λ above. option_map (is_above generation) (slice_get (seen (disk (D.medium device.old))) at) ≡ Some above) }
+    ensures told { IsTrue (D.medium device.old).lasting.tells
+        → IfOk result (λ above. option_map (is_above generation)
+        (slice_get (seen (disk (D.medium device.old))) at) ≡ Some above) }
     ensures refused { IfErr result (λ refusal. refusal ≡ Refusal.Io) }
     ensures device { ReadsAtMost 1 (faultless result) (D.medium device.old) (D.medium device.new) }
-    ensures whole { OnOk result (ReadsBetween 1 1 (D.medium device.old).calls (D.medium device.new).calls) }
+    ensures whole { OnOk result
+        (ReadsBetween 1 1 (D.medium device.old).calls (D.medium device.new).calls) }
 {
     let mut sector = [0; 512];
     device.read(at, &mut sector)?;
@@ -44,11 +47,16 @@ pub(crate) fn has_none_above<D: Device>(
 ) -> Result<bool, Refusal>
     requires { first_region + 3 * log_sectors ≤ (D.medium device.old).size }
     ensures told { IsTrue (D.medium device.old).lasting.tells → IfOk result (λ none. MatchBool none
-        (HasNoneAbove generation (area first_region (3 * log_sectors) (seen (disk (D.medium device.old)))))
-        (¬ HasNoneAbove generation (area first_region (3 * log_sectors) (seen (disk (D.medium device.old)))))) }
+        (HasNoneAbove generation
+        (area first_region (3 * log_sectors) (seen (disk (D.medium device.old)))))
+        (¬ HasNoneAbove generation
+        (area first_region (3 * log_sectors) (seen (disk (D.medium device.old)))))) }
     ensures refused { IfErr result (λ refusal. refusal ≡ Refusal.Io) }
-    ensures device { ReadsAtMost (3 * log_sectors) (faultless result) (D.medium device.old) (D.medium device.new) }
-    ensures whole { IfOk result (λ none. IsTrue none → ReadsBetween (3 * log_sectors) (3 * log_sectors) (D.medium device.old).calls (D.medium device.new).calls) }
+    ensures device { ReadsAtMost (3 * log_sectors) (faultless result) (D.medium device.old)
+        (D.medium device.new) }
+    ensures whole { IfOk result
+        (λ none. IsTrue none → ReadsBetween (3 * log_sectors) (3 * log_sectors)
+        (D.medium device.old).calls (D.medium device.new).calls) }
 {
     for i in 0..3 * log_sectors as u32 {
         if reads_above(device, ROOT_SECTORS + i, generation)? {

@@ -84,7 +84,8 @@ impl<A: Allocator + Clone> Seen<A> {
     // Takes in an entry.
     fn take_in(&mut self, alloc: &A, entry: &Entry<A>) -> Result<(), AllocError>
         requires { self.old.entries + 1 < 2 ^ 64 }
-        ensures seen { (versions : List Version) → IsSeen versions self.old → OnOk result (IsSeen (versions ++ entry.now ∷ []) self.new) }
+        ensures seen { (versions : List Version) → IsSeen versions self.old
+            → OnOk result (IsSeen (versions ++ entry.now ∷ []) self.new) }
         ensures counted { OnOk result (self.new.entries ≡ self.old.entries + 1) }
     {
         let key = Vec::from_slice(alloc.clone()?, entry.key())?;
@@ -97,7 +98,8 @@ impl<A: Allocator + Clone> Seen<A> {
     /// Takes in entries.
     pub(crate) fn take_in_all(&mut self, alloc: &A, entries: &[Entry<A>]) -> Result<(), AllocError>
         requires { self.old.entries + length entries.now < 2 ^ 64 }
-        ensures seen { (versions : List Version) → IsSeen versions self.old → OnOk result (IsSeen (versions ++ entries.now) self.new) }
+        ensures seen { (versions : List Version) → IsSeen versions self.old
+            → OnOk result (IsSeen (versions ++ entries.now) self.new) }
         ensures counted { OnOk result (self.new.entries ≡ self.old.entries + length entries.now) }
     {
         for entry in entries {

@@ -143,15 +143,23 @@ pub(crate) fn check_table<D: Device, A: Allocator + Clone>(
 ) -> Result<(), Finding>
     requires within { LiesWithin (D.medium device.old).size area table.now }
     requires few { so_far.old.entries + 3200 < 2 ^ 64 }
-    ensures sound { (versions : List Version) → IsSeen versions so_far.old → IsTrue (D.medium device.old).lasting.tells
+    ensures sound { (versions : List Version) → IsSeen versions so_far.old
+        → IsTrue (D.medium device.old).lasting.tells
         → IsTold (seen (disk (D.medium device.old))) area table.now → OnOk result
-        (IsSound (seen (disk (D.medium device.old))) area base table.now × IsNewerPlace versions table.now.versions × IsSeen (versions ++ table.now.versions) so_far.new) }
-    ensures fair { (versions : List Version) → IsSeen versions so_far.old → IsTrue (D.medium device.old).lasting.tells
-        → IsSound (seen (disk (D.medium device.old))) area base table.now → IsNewerPlace versions table.now.versions → IfErr result IsNoVerdict }
+        (IsSound (seen (disk (D.medium device.old))) area base table.now
+        × IsNewerPlace versions table.now.versions
+        × IsSeen (versions ++ table.now.versions) so_far.new) }
+    ensures fair { (versions : List Version) → IsSeen versions so_far.old
+        → IsTrue (D.medium device.old).lasting.tells
+        → IsSound (seen (disk (D.medium device.old))) area base table.now
+        → IsNewerPlace versions table.now.versions → IfErr result IsNoVerdict }
     ensures few { OnOk result (so_far.new.entries ≤ so_far.old.entries + 3200) }
     ensures refused { IfErr result (IsOfTable table.now.number) }
-    ensures device { ReadsAtMost 512 (is_faultless result) (D.medium device.old) (D.medium device.new) }
-    ensures whole { OnOk result (ReadsBetween (8 * length table.now.outline.edges) 512 (D.medium device.old).calls (D.medium device.new).calls) }
+    ensures device { ReadsAtMost 512 (is_faultless result) (D.medium device.old)
+        (D.medium device.new) }
+    ensures whole { OnOk result
+        (ReadsBetween (8 * length table.now.outline.edges) 512 (D.medium device.old).calls
+        (D.medium device.new).calls) }
 {
     let entries = entries_of(alloc, device, area, table)?;
     test(table, &entries, base, so_far)?;

@@ -13,7 +13,8 @@ use std::alloc::{AllocError, Allocator};
 
 #[tactic(auto, unfolding(crate::specs::Indexes::edge_at))]
 fn edge_at(bytes: &[u8]) -> Option<((&[u8], u64), &[u8])>
-    ensures read { Lends (λ x. (record { key = x.0.0.now; number = x.0.1 }, x.1.now)) result (edge_at bytes.now) }
+    ensures read { Lends (λ x. (record { key = x.0.0.now; number = x.0.1 }, x.1.now)) result
+        (edge_at bytes.now) }
     ensures fits { IfSome result (λ x. IsEdge (record { key = x.0.0.now; number = x.0.1 })) }
 {
     let (key, rest) = key_at(bytes)?;

@@ -30,7 +30,8 @@ impl<A: Allocator + Clone> Guard<A> {
     /// The key has just this value; one of no bytes is a value too. A key outside 1 to 255 bytes is `BadKey`, a value above
     /// 2,048 bytes `BadValue`, in this order, and want of memory `NoMemory`.
     pub fn holds(alloc: A, key: &[u8], value: &[u8]) -> Result<Guard<A>, Refusal>
-        ensures { Answers (or_then (key_refusal key.now) (value_refusal value.now)) result (λ g. g ≡ record { key = key.now; value = Some value.now }) }
+        ensures { Answers (or_then (key_refusal key.now) (value_refusal value.now)) result
+            (λ g. g ≡ record { key = key.now; value = Some value.now }) }
     {
         check_key(key)?;
         check_value(value)?;
@@ -44,7 +45,8 @@ impl<A: Allocator + Clone> Guard<A> {
 impl<A: Allocator> Guard<A> {
     /// The key has no value. A key outside 1 to 255 bytes is `BadKey`, want of memory `NoMemory`.
     pub fn absent(alloc: A, key: &[u8]) -> Result<Guard<A>, Refusal>
-        ensures { Answers (key_refusal key.now) result (λ g. g ≡ record { key = key.now; value = None }) }
+        ensures { Answers (key_refusal key.now) result
+            (λ g. g ≡ record { key = key.now; value = None }) }
     {
         check_key(key)?;
         let key = Key::from_slice(alloc, key)?;

@@ -129,7 +129,8 @@ impl<A: Allocator + Clone> Index<A> {
     /// The index of `count` data blocks that the bytes of blocks spell, if they spell one. Want of memory is `NoMemory`.
     pub fn decode(alloc: A, count: usize, blocks: &[u8]) -> Result<Option<Index<A>>, Refusal>
         ensures answer { UnlessNoMemory result (λ index. index ≡ index_of count blocks.now) }
-        ensures exact { IsDecoded (IsIndex count) index_blocks blocks.now (index_of count blocks.now) }
+        ensures exact { IsDecoded (IsIndex count) index_blocks blocks.now
+            (index_of count blocks.now) }
     {
         // An edge's text is the same in both versions.
         match read_all::<A, Edge<A>>(&alloc, FormatVersion::Two, count, blocks)? {

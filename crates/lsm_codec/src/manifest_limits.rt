@@ -47,7 +47,8 @@ impl<A: Allocator> Manifest<A> {
     }
 
     fn each_table_fits(&self) -> bool
-        ensures { IsTrue result ↔ All (IsTableRecord self.now.next_table self.now.runs) self.now.tables }
+        ensures { IsTrue result
+            ↔ All (IsTableRecord self.now.next_table self.now.runs) self.now.tables }
     {
         self.tables().iter().all(|table| table.is_within_limits(self.next_table(), self.runs()))
     }

@@ -35,7 +35,16 @@ struct Header {
 }
 
 fn header_at(bytes: &[u8]) -> Option<(Header, &[u8])>
-    ensures { Lends (λ x. ((0x4c534d4d, (x.0.generation, (x.0.base, (x.0.next_table, (x.0.logs, (x.0.runs, x.0.tables)))))), x.1.now)) result (header_at bytes.now) }
+    ensures { Lends (λ x. (
+      (
+        0x4c534d4d,
+        (
+          x.0.generation,
+          (x.0.base, (x.0.next_table, (x.0.logs, (x.0.runs, x.0.tables)))),
+        ),
+      ),
+      x.1.now,
+    )) result (header_at bytes.now) }
 {
     if bytes.len() < HEADER_BYTES {
         return None;
@@ -60,7 +69,8 @@ fn manifest_at<'b, A: Allocator + Clone>(
     version: FormatVersion,
     bytes: &'b [u8],
 ) -> Result<Option<(Manifest<A>, &'b [u8])>, AllocError>
-    ensures { IfOk result (λ read. Lends (λ x. (x.0, x.1.now)) read (manifest_at version bytes.now)) }
+    ensures { IfOk result
+        (λ read. Lends (λ x. (x.0, x.1.now)) read (manifest_at version bytes.now)) }
 {
     let Some((header, rest)) = header_at(bytes) else {
         return Ok(None);
@@ -120,8 +130,10 @@ impl<A: Allocator> Manifest<A> {
     pub fn encode(&self, alloc: A) -> Result<Vec<u8, A>, Refusal>
         requires logs { length self.now.logs < 2 ^ 8 }
         requires tables { length self.now.tables < 2 ^ 16 }
-        ensures spelled { UnlessNoMemory result (λ sectors. sectors.items ≡ manifest_bytes self.now) }
-        ensures whole { IfOk result (λ sectors. length sectors.items ≡ 512 * sector_count self.now) }
+        ensures spelled { UnlessNoMemory result
+            (λ sectors. sectors.items ≡ manifest_bytes self.now) }
+        ensures whole { IfOk result
+            (λ sectors. length sectors.items ≡ 512 * sector_count self.now) }
     {
         let mut sectors = Vec::new(alloc);
         sectors.extend_from_slice(&header_text(self))?;
@@ -140,8 +152,10 @@ impl<A: Allocator + Clone> Manifest<A> {
         version: FormatVersion,
         sectors: &[u8],
     ) -> Result<Option<Manifest<A>>, Refusal>
-        ensures answer { UnlessNoMemory result (λ manifest. manifest ≡ manifest_of version sectors.now) }
-        ensures exact { IsDecoded (IsManifestOf version) manifest_bytes sectors.now (manifest_of version sectors.now) }
+        ensures answer { UnlessNoMemory result
+            (λ manifest. manifest ≡ manifest_of version sectors.now) }
+        ensures exact { IsDecoded (IsManifestOf version) manifest_bytes sectors.now
+            (manifest_of version sectors.now) }
     {
         match manifest_at(&alloc, version, sectors)? {
             Some((manifest, rest)) => {

@@ -50,7 +50,8 @@ pub(crate) fn push_change<A: Allocator>(
     value: Option<&[u8]>,
 ) -> Result<(), AllocError>
     requires { IsChange key.now (option_map (λ v. v.now) value) }
-    ensures ok { OnOk result (text.new.items ≡ text.old.items ++ change_text key.now (option_map (λ v. v.now) value.entry)) }
+    ensures ok { OnOk result (text.new.items
+        ≡ text.old.items ++ change_text key.now (option_map (λ v. v.now) value.entry)) }
     ensures err { OnErr result (text.new.items ≡ text.old.items) }
 {
     let mut head = Filled::<259>::new();

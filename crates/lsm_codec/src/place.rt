@@ -53,7 +53,9 @@ fn append_value<A: Allocator>(
     value: Option<&[u8]>,
 ) -> Result<Option<u16>, AllocError>
     requires { value_length (option_map (λ v. v.now) value) ≤ 2048 }
-    ensures bytes { bytes.new.items ≡ (if is_ok result then bytes.old.items ++ value_bytes (option_map (λ v. v.now) value.entry) else bytes.old.items) }
+    ensures bytes { bytes.new.items
+        ≡ (if is_ok result then bytes.old.items ++ value_bytes (option_map (λ v. v.now) value.entry)
+        else bytes.old.items) }
     ensures len { IfOk result (λ len. len ≡ option_map (λ v. length v.now) value.entry) }
 {
     let Some(value) = value else {
@@ -70,7 +72,8 @@ pub(crate) fn append<A: Allocator>(
 ) -> Result<Place, AllocError>
     requires { IsEntry (shown version) }
     ensures place { IfOk result (λ place. IsPlaceIn bytes.new.items place) }
-    ensures version { IfOk result (λ place. version_at bytes.new.items place ≡ shown version.entry) }
+    ensures version { IfOk result
+        (λ place. version_at bytes.new.items place ≡ shown version.entry) }
     ensures longer { take (length bytes.old.items) bytes.new.items ≡ bytes.old.items }
 {
     let at = bytes.len();

@@ -17,7 +17,8 @@ pub(crate) fn is_padding(bytes: &[u8], size: usize, unit: usize) -> bool
 pub(crate) fn put_padding<A: Allocator>(out: &mut Vec<u8, A>, unit: usize) -> Result<(), AllocError>
     requires low { 1 ≤ unit }
     requires high { unit ≤ 4096 }
-    ensures { OnOk result (out.new.items ≡ out.old.items ++ replicate ((unit - length out.old.items % unit) % unit) 0) }
+    ensures { OnOk result (out.new.items
+        ≡ out.old.items ++ replicate ((unit - length out.old.items % unit) % unit) 0) }
 {
     let size = out.len();
     out.resize(size + (unit - size % unit) % unit, 0)?;

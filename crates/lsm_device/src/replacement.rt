@@ -45,9 +45,12 @@ impl FileDevice {
         path: &str,
         sectors: u32,
     ) -> Result<(FileDevice, Replacement), OpenError>
-        ensures size { IfOk result (λ made. (⟦<FileDevice as Device>⟧.medium made.0).size ≡ sectors) }
-        ensures no_calls { IfOk result (λ made. (⟦<FileDevice as Device>⟧.medium made.0).calls ≡ no_calls) }
-        ensures tells_nothing { IfOk result (λ made. (⟦<FileDevice as Device>⟧.medium made.0).lasting.tells ≡ false) }
+        ensures size { IfOk result
+            (λ made. (⟦<FileDevice as Device>⟧.medium made.0).size ≡ sectors) }
+        ensures no_calls { IfOk result
+            (λ made. (⟦<FileDevice as Device>⟧.medium made.0).calls ≡ no_calls) }
+        ensures tells_nothing { IfOk result
+            (λ made. (⟦<FileDevice as Device>⟧.medium made.0).lasting.tells ≡ false) }
     {
         let place = place_of(rt, path)?;
         let beside = name_beside(rt, &place)?;
@@ -177,7 +180,8 @@ fn create_there<R: Files<File = File>>(
     sectors: u32,
 ) -> Result<(FileDevice, Replacement), OpenError>
     ensures size { IfOk result (λ made. (⟦<FileDevice as Device>⟧.medium made.0).size ≡ sectors) }
-    ensures no_calls { IfOk result (λ made. (⟦<FileDevice as Device>⟧.medium made.0).calls ≡ no_calls) }
+    ensures no_calls { IfOk result
+        (λ made. (⟦<FileDevice as Device>⟧.medium made.0).calls ≡ no_calls) }
 {
     let device = FileDevice::try_create(files, &place, sectors)?;
     Ok((

@@ -32,7 +32,8 @@ pub(crate) struct Expected<'s, A: Allocator> {
 
 // The batch that a step commits, if its reply is that it was accepted.
 fn accepted_by<'s, A: Allocator>(step: &'s Step<A>, reply: &Reply<A>) -> Option<&'s Batch<A>>
-    ensures { as_list (option_map (λ batch. batch.now) result) ≡ accepted_by (step_in [] (asked_of step.now)) (reply_in (told_of reply.now)) }
+    ensures { as_list (option_map (λ batch. batch.now) result)
+        ≡ accepted_by (step_in [] (asked_of step.now)) (reply_in (told_of reply.now)) }
 {
     match (step, reply) {
         (Step::Call(Call::Commit(batch)), Reply::Number(_)) => Some(batch),
@@ -43,7 +44,8 @@ fn accepted_by<'s, A: Allocator>(step: &'s Step<A>, reply: &Reply<A>) -> Option<
 
 // The batch that a step commits, if it is told of a fault: it may have been written.
 fn flies_by<'s, A: Allocator>(step: &'s Step<A>, reply: &Reply<A>) -> Option<&'s Batch<A>>
-    ensures { as_list (option_map (λ batch. batch.now) result) ≡ flies_by (step_in [] (asked_of step.now)) (reply_in (told_of reply.now)) }
+    ensures { as_list (option_map (λ batch. batch.now) result)
+        ≡ flies_by (step_in [] (asked_of step.now)) (reply_in (told_of reply.now)) }
 {
     match (step, reply) {
         (Step::Call(Call::Commit(batch)), Reply::Refused(Refusal::Io)) => Some(batch),
@@ -54,7 +56,9 @@ fn flies_by<'s, A: Allocator>(step: &'s Step<A>, reply: &Reply<A>) -> Option<&'s
 
 // Whether a reply acknowledges all batches that were accepted before it, where `known` already were acknowledged.
 fn acknowledges<A: Allocator>(step: &Step<A>, reply: &Reply<A>, known: usize) -> bool
-    ensures { (done : ℕ) → (if result then done else known) ≡ acknowledged_by 0 done known (step_in [] (asked_of step.now)) (reply_in (told_of reply.now)) }
+    ensures { (done : ℕ) → (if result then done else known)
+        ≡ acknowledged_by 0 done known (step_in [] (asked_of step.now))
+        (reply_in (told_of reply.now)) }
 {
     match (step, reply) {
         (Step::Call(Call::Sync), Reply::Done) => true,
@@ -73,7 +77,8 @@ fn acknowledged<A: Allocator>(
     accepted: usize,
     known: usize,
 ) -> usize
-    ensures { result ≡ acknowledged_by 0 accepted known (step_in [] (asked_of step.now)) (reply_in (told_of reply.now)) }
+    ensures { result ≡ acknowledged_by 0 accepted known (step_in [] (asked_of step.now))
+        (reply_in (told_of reply.now)) }
 {
     if acknowledges(step, reply, known) {
         accepted
@@ -88,7 +93,9 @@ fn add_accepted<'s, A: Allocator>(
     step: &'s Step<A>,
     reply: &Reply<A>,
 ) -> Result<(), AllocError>
-    ensures { OnOk result (map (λ batch. batch.now) accepted.new.items ≡ map (λ batch. batch.now) accepted.old.items ++ accepted_by (step_in [] (asked_of step.now)) (reply_in (told_of reply.now))) }
+    ensures { OnOk result (map (λ batch. batch.now) accepted.new.items
+        ≡ map (λ batch. batch.now) accepted.old.items
+        ++ accepted_by (step_in [] (asked_of step.now)) (reply_in (told_of reply.now))) }
 {
     push_some(accepted, accepted_by(step, reply))
 }
@@ -98,7 +105,9 @@ fn push_some<'s, A: Allocator>(
     batches: &mut Vec<&'s Batch<A>, A>,
     batch: Option<&'s Batch<A>>,
 ) -> Result<(), AllocError>
-    ensures { OnOk result (map (λ batch. batch.now) batches.new.items ≡ map (λ batch. batch.now) batches.old.items ++ as_list (option_map (λ batch. batch.now) batch.entry)) }
+    ensures { OnOk result (map (λ batch. batch.now) batches.new.items
+        ≡ map (λ batch. batch.now) batches.old.items
+        ++ as_list (option_map (λ batch. batch.now) batch.entry)) }
 {
     if let Some(batch) = batch {
         batches.push(batch)?;
@@ -112,7 +121,9 @@ fn flying<'s, A: Allocator>(
     step: &'s Step<A>,
     reply: &Reply<A>,
 ) -> Option<&'s Batch<A>>
-    ensures { as_list (option_map (λ batch. batch.now) result) ≡ last_of (as_list (option_map (λ batch. batch.now) before.entry)) (flies_by (step_in [] (asked_of step.now)) (reply_in (told_of reply.now))) }
+    ensures { as_list (option_map (λ batch. batch.now) result)
+        ≡ last_of (as_list (option_map (λ batch. batch.now) before.entry))
+        (flies_by (step_in [] (asked_of step.now)) (reply_in (told_of reply.now))) }
 {
     match flies_by(step, reply) {
         Some(batch) => Some(batch),
@@ -127,8 +138,11 @@ fn batches_of<'s, A: Allocator + Clone>(
     replies: &[Reply<A>],
 ) -> Result<Batches<'s, A>, AllocError>
     requires { length replies.now ≡ length steps.now }
-    ensures batches { IfOk result (λ b. map (λ batch. batch.now) b.all.items ≡ batches_in (map asked_of steps.now) (map told_of replies.now)) }
-    ensures least { IfOk result (λ b. b.least ≡ least_in (map asked_of steps.now) (map told_of replies.now)) }
+    ensures batches { IfOk result
+        (λ b. map (λ batch. batch.now) b.all.items
+        ≡ batches_in (map asked_of steps.now) (map told_of replies.now)) }
+    ensures least { IfOk result
+        (λ b. b.least ≡ least_in (map asked_of steps.now) (map told_of replies.now)) }
     ensures within { IfOk result (λ b. b.least ≤ length b.all.items) }
 {
     let mut accepted = Vec::new(alloc.clone()?);
@@ -154,7 +168,9 @@ pub(crate) fn expected_of<'s, A: Allocator + Clone>(
     replies: &[Reply<A>],
 ) -> Result<Expected<'s, A>, AllocError>
     requires { length replies.now ≡ length steps.now }
-    ensures { IfOk result (AreExpected (least_in (map asked_of steps.now) (map told_of replies.now)) (batches_in (map asked_of steps.now) (map told_of replies.now))) }
+    ensures { IfOk result
+        (AreExpected (least_in (map asked_of steps.now) (map told_of replies.now))
+        (batches_in (map asked_of steps.now) (map told_of replies.now))) }
 {
     let batches = batches_of(alloc, steps, replies)?;
     let maps = maps_from(alloc, &batches.all, batches.least)?;
@@ -171,7 +187,8 @@ fn maps_from<'s, A: Allocator + Clone>(
     least: usize,
 ) -> Result<Vec<Vec<RowRef<'s>, A>, A>, AllocError>
     requires { least ≤ length batches.now }
-    ensures { IfOk result (λ maps. map (λ rows. rows_of rows.items) maps.items ≡ map finite.entries (maps_from least (map (λ batch. batch.now) batches.now))) }
+    ensures { IfOk result (λ maps. map (λ rows. rows_of rows.items) maps.items
+        ≡ map finite.entries (maps_from least (map (λ batch. batch.now) batches.now))) }
 {
     let (first, later) = batches.split_at(least);
     let rows = map_after(alloc, first)?;
@@ -184,7 +201,9 @@ fn map_after<'s, A: Allocator + Clone>(
     alloc: &A,
     batches: &[&'s Batch<A>],
 ) -> Result<Vec<RowRef<'s>, A>, AllocError>
-    ensures { IfOk result (λ rows. AreRows rows.items (apply_all finite.empty (map (λ batch. batch.now) batches.now))) }
+    ensures { IfOk result
+        (λ rows. AreRows rows.items
+        (apply_all finite.empty (map (λ batch. batch.now) batches.now))) }
 {
     let mut rows = Vec::new(alloc.clone()?);
     for batch in batches {
@@ -199,7 +218,9 @@ fn maps_after<'s, A: Allocator + Clone>(
     first: Vec<RowRef<'s>, A>,
     batches: &[&'s Batch<A>],
 ) -> Result<Vec<Vec<RowRef<'s>, A>, A>, AllocError>
-    ensures { IfOk result (λ maps. (m : Map) → AreRows first.entry.items m → map (λ rows. rows_of rows.items) maps.items ≡ map finite.entries (m ∷ maps_after m (map (λ batch. batch.now) batches.now))) }
+    ensures { IfOk result (λ maps. (m : Map) → AreRows first.entry.items m
+        → map (λ rows. rows_of rows.items) maps.items
+        ≡ map finite.entries (m ∷ maps_after m (map (λ batch. batch.now) batches.now))) }
 {
     let mut maps = Vec::new(alloc.clone()?);
     let mut rows = first;

@@ -91,7 +91,9 @@ fn lead<'i, R: Threads + Sync, A: Allocator + Clone + Send + Sync>(
     steps: &[Step<A>],
     fuse: Option<u64>,
 ) -> Result<Led<'i, A>, Refusal>
-    ensures led { IfOk result (λ led. IsLed (begun image.now fuse) (map asked_of steps.now) (map told_of led.replies.items) (medium_in led.device)) }
+    ensures led { IfOk result
+        (λ led. IsLed (begun image.now fuse) (map asked_of steps.now)
+        (map told_of led.replies.items) (medium_in led.device)) }
     ensures refused { IfErr result (λ e. e ≡ NoMemory) }
 {
     let Some(places) = steps.len().checked_add(1) else {
@@ -113,7 +115,9 @@ fn lead_fused<'i, R: Threads + Sync, A: Allocator + Clone + Send + Sync>(
     steps: &[Step<A>],
     fuse: u64,
 ) -> Result<Led<'i, A>, Refusal>
-    ensures led { IfOk result (λ led. IsLed (begun image.now (Some fuse)) (map asked_of steps.now) (map told_of led.replies.items) (medium_in led.device)) }
+    ensures led { IfOk result
+        (λ led. IsLed (begun image.now (Some fuse)) (map asked_of steps.now)
+        (map told_of led.replies.items) (medium_in led.device)) }
     ensures memory { IfOk result (λ led. is_wanting (map told_of led.replies.items) ≡ false) }
     ensures passed { IfOk result (λ led. (medium_in led.device).calls.passed ≡ fuse) }
     ensures refused { IfErr result (λ e. e ≡ NoMemory) }
@@ -136,7 +140,9 @@ fn lead_opening<'i, R: Threads + Sync, A: Allocator + Clone + Send + Sync>(
     image: &Image<'i, A>,
     fuse: u64,
 ) -> Result<Led<'i, A>, Refusal>
-    ensures led { IfOk result (λ led. IsLed (begun image.now (Some fuse)) [] (map told_of led.replies.items) (medium_in led.device)) }
+    ensures led { IfOk result
+        (λ led. IsLed (begun image.now (Some fuse)) [] (map told_of led.replies.items)
+        (medium_in led.device)) }
     ensures memory { IfOk result (λ led. is_wanting (map told_of led.replies.items) ≡ false) }
     ensures passed { IfOk result (λ led. (medium_in led.device).calls.passed ≡ fuse) }
     ensures refused { IfErr result (λ e. e ≡ NoMemory) }
@@ -175,7 +181,9 @@ fn fuses<R: Threads + Sync, A: Allocator + Clone + Send + Sync>(
     image: &Image<'_, A>,
     steps: &[Step<A>],
 ) -> Result<u64, Refusal>
-    ensures whole { IfOk result (λ count. (whole : Medium) × IsWhole image.now (map asked_of steps.now) whole × (count ≡ whole.calls.passed + 1)) }
+    ensures whole { IfOk result
+        (λ count. (whole : Medium) × IsWhole image.now (map asked_of steps.now) whole
+        × (count ≡ whole.calls.passed + 1)) }
     ensures refused { IfErr result (λ e. e ≡ NoMemory) }
 {
     let led = lead(rt, alloc, image, steps, None)?;
@@ -192,8 +200,10 @@ fn fuses<R: Threads + Sync, A: Allocator + Clone + Send + Sync>(
 
 // Counts a moment at which not each subset of the pending writes is tried.
 fn count_skipped(pending: usize, explored: &mut Explored) -> Result<(), Refusal>
-    ensures skipped { OnOk result (explored.new.skipped ≡ explored.old.skipped + (if is_skipped pending then 1 else 0)) }
-    ensures same { (explored.new.first ≡ explored.old.first) × (explored.new.second ≡ explored.old.second) × (explored.new.wrong ≡ explored.old.wrong) }
+    ensures skipped { OnOk result
+        (explored.new.skipped ≡ explored.old.skipped + (if is_skipped pending then 1 else 0)) }
+    ensures same { (explored.new.first ≡ explored.old.first)
+        × (explored.new.second ≡ explored.old.second) × (explored.new.wrong ≡ explored.old.wrong) }
     ensures refused { IfErr result (λ e. e ≡ NoMemory) }
 {
     if is_skipped(pending) {
@@ -209,7 +219,8 @@ fn judge<A: Allocator + Clone>(
     expected: &Expected<'_, A>,
     explored: &mut Explored,
 ) -> Result<(), Refusal>
-    requires { (least : ℕ) × (batches : List (List Operation)) × AreExpected least batches expected.now × MayBeLeft 0 least batches left.now }
+    requires { (least : ℕ) × (batches : List (List Operation))
+        × AreExpected least batches expected.now × MayBeLeft 0 least batches left.now }
     ensures same { OnOk result (explored.new ≡ explored.old) }
     ensures refused { IfErr result (λ e. e ≡ NoMemory) }
 {
@@ -227,9 +238,13 @@ fn judge_each<A: Allocator + Clone>(
     expected: &Expected<'_, A>,
     explored: &mut Explored,
 ) -> Result<(), Refusal>
-    requires may { (least : ℕ) × (batches : List (List Operation)) × AreExpected least batches expected.now × Leaves (MayBeLeft 0 least batches) (disk (medium_in device.now)) }
+    requires may { (least : ℕ) × (batches : List (List Operation))
+        × AreExpected least batches expected.now
+        × Leaves (MayBeLeft 0 least batches) (disk (medium_in device.now)) }
     ensures second { OnOk result (explored.new.second ≡ explored.old.second + length masks.now) }
-    ensures same { OnOk result ((explored.new.first ≡ explored.old.first) × (explored.new.skipped ≡ explored.old.skipped) × (explored.new.wrong ≡ explored.old.wrong)) }
+    ensures same { OnOk result
+        ((explored.new.first ≡ explored.old.first) × (explored.new.skipped ≡ explored.old.skipped)
+        × (explored.new.wrong ≡ explored.old.wrong)) }
     ensures refused { IfErr result (λ e. e ≡ NoMemory) }
 {
     for mask in masks {
@@ -249,7 +264,8 @@ fn reopen_one<R: Threads + Sync, A: Allocator + Clone + Send + Sync>(
     expected: &Expected<'_, A>,
     explored: &mut Explored,
 ) -> Result<(), Refusal>
-    requires may { (least : ℕ) × (batches : List (List Operation)) × AreExpected least batches expected.now × MayBeLeft 1 least batches left.now }
+    requires may { (least : ℕ) × (batches : List (List Operation))
+        × AreExpected least batches expected.now × MayBeLeft 1 least batches left.now }
     ensures adds { OnOk result (AddsOpening left.now fuse explored.old explored.new) }
     ensures refused { IfErr result (λ e. e ≡ NoMemory) }
 {
@@ -269,7 +285,8 @@ fn reopen_each<R: Threads + Sync, A: Allocator + Clone + Send + Sync>(
     expected: &Expected<'_, A>,
     explored: &mut Explored,
 ) -> Result<(), Refusal>
-    requires may { (least : ℕ) × (batches : List (List Operation)) × AreExpected least batches expected.now × MayBeLeft 1 least batches left.now }
+    requires may { (least : ℕ) × (batches : List (List Operation))
+        × AreExpected least batches expected.now × MayBeLeft 1 least batches left.now }
     ensures adds { OnOk result (AddsOpenings left.now explored.old explored.new) }
     ensures refused { IfErr result (λ e. e ≡ NoMemory) }
 {
@@ -284,7 +301,9 @@ fn reopen_each<R: Threads + Sync, A: Allocator + Clone + Send + Sync>(
 // Counts a crash of the life.
 fn count_first(explored: &mut Explored) -> Result<(), Refusal>
     ensures first { OnOk result (explored.new.first ≡ explored.old.first + 1) }
-    ensures same { (explored.new.second ≡ explored.old.second) × (explored.new.skipped ≡ explored.old.skipped) × (explored.new.wrong ≡ explored.old.wrong) }
+    ensures same { (explored.new.second ≡ explored.old.second)
+        × (explored.new.skipped ≡ explored.old.skipped)
+        × (explored.new.wrong ≡ explored.old.wrong) }
     ensures refused { IfErr result (λ e. e ≡ NoMemory) }
 {
     explored.first = one_more(explored.first)?;
@@ -300,7 +319,8 @@ fn crash_one<R: Threads + Sync, A: Allocator + Clone + Send + Sync>(
     twice: bool,
     explored: &mut Explored,
 ) -> Result<(), Refusal>
-    requires may { (least : ℕ) × (batches : List (List Operation)) × AreExpected least batches expected.now × MayBeLeft 1 least batches left.now }
+    requires may { (least : ℕ) × (batches : List (List Operation))
+        × AreExpected least batches expected.now × MayBeLeft 1 least batches left.now }
     ensures adds { OnOk result (AddsCrashes (left.now ∷ []) twice explored.old explored.new) }
     ensures refused { IfErr result (λ e. e ≡ NoMemory) }
 {
@@ -323,8 +343,12 @@ fn crash_each<R: Threads + Sync, A: Allocator + Clone + Send + Sync>(
     twice: bool,
     explored: &mut Explored,
 ) -> Result<(), Refusal>
-    requires may { (least : ℕ) × (batches : List (List Operation)) × AreExpected least batches expected.now × Leaves (MayBeLeft 1 least batches) (disk (medium_in device.now)) }
-    ensures adds { OnOk result (AddsCrashes (map (λ mask. image mask.items (disk (medium_in device.now))) masks.now) twice explored.old explored.new) }
+    requires may { (least : ℕ) × (batches : List (List Operation))
+        × AreExpected least batches expected.now
+        × Leaves (MayBeLeft 1 least batches) (disk (medium_in device.now)) }
+    ensures adds { OnOk result
+        (AddsCrashes (map (λ mask. image mask.items (disk (medium_in device.now))) masks.now) twice
+        explored.old explored.new) }
     ensures refused { IfErr result (λ e. e ≡ NoMemory) }
 {
     for mask in masks {
@@ -341,7 +365,9 @@ fn expected_behind<'s, A: Allocator + Clone>(
     replies: &[Reply<A>],
 ) -> Result<Expected<'s, A>, AllocError>
     requires { length replies.now ≡ length steps.now + 1 }
-    ensures { IfOk result (AreExpected (least_in (map asked_of steps.now) (drop 1 (map told_of replies.now))) (batches_in (map asked_of steps.now) (drop 1 (map told_of replies.now)))) }
+    ensures { IfOk result
+        (AreExpected (least_in (map asked_of steps.now) (drop 1 (map told_of replies.now)))
+        (batches_in (map asked_of steps.now) (drop 1 (map told_of replies.now)))) }
 {
     let expected = expected_of(alloc, steps, &replies[1..])?;
     Ok(expected)
@@ -359,7 +385,8 @@ fn explore_one<R: Threads + Sync, A: Allocator + Clone + Send + Sync>(
 ) -> Result<(), Refusal>
     requires formatted { (log_sectors : ℕ) × StandFor log_sectors empty_store start.now }
     requires few { length steps.now < 2 ^ 32 }
-    ensures adds { OnOk result (AddsLife start.now (map asked_of steps.now) fuse twice explored.old explored.new) }
+    ensures adds { OnOk result
+        (AddsLife start.now (map asked_of steps.now) fuse twice explored.old explored.new) }
     ensures refused { IfErr result (λ e. e ≡ NoMemory) }
 {
     let led = lead_fused(rt, alloc, start, steps, fuse)?;
@@ -383,7 +410,8 @@ fn explore_from<R: Threads + Sync, A: Allocator + Clone + Send + Sync, P: Progre
     requires formatted { (log_sectors : ℕ) × StandFor log_sectors empty_store start.now }
     requires few { length steps.now < 2 ^ 32 }
     ensures right { IfOk result (λ explored. explored.wrong ≡ 0) }
-    ensures lives { IfOk result (λ explored. IsExploredFrom start.now (map asked_of steps.now) twice explored) }
+    ensures lives { IfOk result
+        (λ explored. IsExploredFrom start.now (map asked_of steps.now) twice explored) }
     ensures refused { IfErr result (λ e. e ≡ NoMemory) }
 {
     let mut explored = Explored {
@@ -426,7 +454,8 @@ pub fn explore<R: Threads + Sync, A: Allocator + Clone + Send + Sync, P: Progres
     ensures right { IfOk result (λ explored. explored.wrong ≡ 0) }
 
     // Just the crashes are counted of lives that were led so.
-    ensures explored { IfOk result (λ explored. IsExplored sectors log_sectors (map asked_of steps.now) twice explored) }
+    ensures explored { IfOk result
+        (λ explored. IsExplored sectors log_sectors (map asked_of steps.now) twice explored) }
     ensures geometry { (result ≡ Err BadGeometry) ↔ (IsGeometry sectors log_sectors → ⊥) }
     ensures refused { IfErr result (λ e. (e ≡ NoMemory) ⊎ (e ≡ BadGeometry)) }
 {

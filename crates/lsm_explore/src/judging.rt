@@ -50,7 +50,9 @@ fn has_map<D: Device, A: Allocator + Clone>(
 ) -> Result<bool, Refusal>
     requires backed { IsBacked store.old }
     requires runs { IsNone store.old.state.stopped }
-    ensures same { IfOk result (λ same. IsTrue same ↔ (rows_of rows.now ≡ pairs_in (present_map store.old.state.points) from.now None)) }
+    ensures same { IfOk result
+        (λ same. IsTrue same
+        ↔ (rows_of rows.now ≡ pairs_in (present_map store.old.state.points) from.now None)) }
     ensures refused { IfErr result (λ e. (e ≡ NoMemory) ⊎ (e ≡ Io)) }
 {
     let page = store.scan(At::Now, from, None, ROWS)?;
@@ -79,7 +81,8 @@ fn has_one<D: Device, A: Allocator + Clone>(
     store: &mut Store<D, A>,
     expected: &Expected<'_, A>,
 ) -> Result<bool, Refusal>
-    requires found { (least : ℕ) × (batches : List (List Operation)) × AreExpected least batches expected.now × IsFound least batches store.old }
+    requires found { (least : ℕ) × (batches : List (List Operation))
+        × AreExpected least batches expected.now × IsFound least batches store.old }
     ensures same { IfOk result (λ same. same ≡ true) }
     ensures refused { IfErr result (λ e. (e ≡ NoMemory) ⊎ (e ≡ Io)) }
 {
@@ -112,7 +115,8 @@ fn has_expected<D: Device + Drop, A: Allocator + Clone>(
     store: Store<D, A>,
     expected: &Expected<'_, A>,
 ) -> Result<bool, Refusal>
-    requires found { (least : ℕ) × (batches : List (List Operation)) × AreExpected least batches expected.now × IsFound least batches store }
+    requires found { (least : ℕ) × (batches : List (List Operation))
+        × AreExpected least batches expected.now × IsFound least batches store }
     ensures same { IfOk result (λ same. same ≡ true) }
     ensures refused { IfErr result (λ e. e ≡ NoMemory) }
 {
@@ -129,7 +133,8 @@ pub(crate) fn is_expected<A: Allocator + Clone>(
     left: &Image<'_, A>,
     expected: &Expected<'_, A>,
 ) -> Result<bool, Refusal>
-    requires may { (least : ℕ) × (batches : List (List Operation)) × AreExpected least batches expected.now × MayBeLeft 0 least batches left.now }
+    requires may { (least : ℕ) × (batches : List (List Operation))
+        × AreExpected least batches expected.now × MayBeLeft 0 least batches left.now }
     ensures right { IfOk result (λ right. right ≡ true) }
     ensures refused { IfErr result (λ e. e ≡ NoMemory) }
 {

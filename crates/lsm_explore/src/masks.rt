@@ -49,7 +49,8 @@ fn longer<A: Allocator + Clone>(
     masks: &[Vec<bool, A>],
 ) -> Result<Vec<Vec<bool, A>, A>, AllocError>
     ensures { IfOk result (λ more. map (λ mask. mask.items) more.items
-        ≡ map (λ mask. mask ++ false ∷ []) (map (λ mask. mask.items) masks.now) ++ map (λ mask. mask ++ true ∷ []) (map (λ mask. mask.items) masks.now)) }
+        ≡ map (λ mask. mask ++ false ∷ []) (map (λ mask. mask.items) masks.now)
+        ++ map (λ mask. mask ++ true ∷ []) (map (λ mask. mask.items) masks.now)) }
 {
     let mut more = Vec::new(alloc.clone()?);
     add_longer(alloc, &mut more, masks, false)?;
@@ -64,7 +65,9 @@ fn add_longer<A: Allocator + Clone>(
     masks: &[Vec<bool, A>],
     last: bool,
 ) -> Result<(), AllocError>
-    ensures { OnOk result (map (λ mask. mask.items) more.new.items ≡ map (λ mask. mask.items) more.old.items ++ map (λ mask. mask ++ last ∷ []) (map (λ mask. mask.items) masks.now)) }
+    ensures { OnOk result (map (λ mask. mask.items) more.new.items
+        ≡ map (λ mask. mask.items) more.old.items
+        ++ map (λ mask. mask ++ last ∷ []) (map (λ mask. mask.items) masks.now)) }
 {
     for mask in masks {
         let mut copy = Vec::from_slice(alloc.clone()?, mask)?;

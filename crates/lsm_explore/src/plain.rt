@@ -38,7 +38,10 @@ fn add_row<'s, A: Allocator>(
     rows: &mut Vec<RowRef<'s>, A>,
     operation: OpRef<'s>,
 ) -> Result<(), AllocError>
-    ensures { OnOk result (rows_of rows.new.items ≡ rows_of rows.old.items ++ row_of (shown_operation operation.entry).key (shown_operation operation.entry).value) }
+    ensures { OnOk result (rows_of rows.new.items
+        ≡ rows_of rows.old.items
+        ++ row_of (shown_operation operation.entry).key
+        (shown_operation operation.entry).value) }
 {
     if let Some(value) = operation.value {
         rows.push(RowRef {
@@ -55,7 +58,9 @@ fn with_change<'s, A: Allocator>(
     rows: &[RowRef<'s>],
     operation: OpRef<'s>,
 ) -> Result<Vec<RowRef<'s>, A>, AllocError>
-    ensures { IfOk result (λ after. rows_of after.items ≡ with_row (rows_of rows.now) (shown_operation operation.entry).key (shown_operation operation.entry).value) }
+    ensures { IfOk result (λ after. rows_of after.items
+        ≡ with_row (rows_of rows.now) (shown_operation operation.entry).key
+        (shown_operation operation.entry).value) }
 {
     let place = place_of(rows, operation.key);
     let end = end_of(rows, place, operation.key);
@@ -71,7 +76,8 @@ pub(crate) fn applied<'s, A: Allocator + Clone>(
     rows: &[RowRef<'s>],
     operations: Operations<'s>,
 ) -> Result<Vec<RowRef<'s>, A>, AllocError>
-    ensures { IfOk result (λ after. (m : Map) → AreRows rows.now m → AreRows after.items (apply m operations.entry)) }
+    ensures { IfOk result (λ after. (m : Map) → AreRows rows.now m
+        → AreRows after.items (apply m operations.entry)) }
 {
     let mut after = Vec::from_slice(alloc.clone()?, rows)?;
     for operation in operations {

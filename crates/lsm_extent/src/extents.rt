@@ -69,8 +69,12 @@ impl<A: Allocator> Extents<A> {
     /// fails, nothing has changed.
     pub fn claim(&mut self, first: u32, blocks: u32) -> Result<Option<Extent>, Refusal>
         requires nonempty { 0 < blocks }
-        ensures claimed { IfOk result (λ given. SomeIff given (IsFreeRun self.old first blocks) (record { first = first; blocks = blocks })) }
-        ensures held { IfOk result (λ given. MatchOption given (self.new ≡ self.old) (λ extent. self.new ≡ handed_out extent self.old)) }
+        ensures claimed { IfOk result
+            (λ given. SomeIff given (IsFreeRun self.old first blocks)
+            (record { first = first; blocks = blocks })) }
+        ensures held { IfOk result
+            (λ given. MatchOption given (self.new ≡ self.old)
+            (λ extent. self.new ≡ handed_out extent self.old)) }
         ensures no_memory { IfErr result (λ refusal. refusal ≡ NoMemory) }
         ensures were_free { OnErr result (IsFreeRun self.old first blocks) }
         ensures unchanged { OnErr result (self.new ≡ self.old) }
@@ -135,7 +139,8 @@ impl<A: Allocator> Extents<A> {
 
     /// States for proofs of callers that what has sure room surely fits.
     pub fn sure_room(&self)
-        ensures { (total largest : ℕ) → has_sure_room self.now total largest ≡ true → SurelyFit self.now total largest }
+        ensures { (total largest : ℕ) → has_sure_room self.now total largest ≡ true
+            → SurelyFit self.now total largest }
     {
         let _blocks = self.blocks;
     }

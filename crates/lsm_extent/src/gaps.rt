@@ -27,7 +27,8 @@ pub(crate) fn lowest_gap(held: &[Extent], area: u32, blocks: u32) -> Option<Gap>
     requires nonempty { 0 < blocks }
     requires laid { IsLaid 0 area held.now }
     ensures { MatchOption result (HasNoFit (record { blocks = area; held = held.now }) blocks)
-        (λ gap. IsGap held.now area gap.place gap.first blocks × IsLowestFit (record { blocks = area; held = held.now }) blocks gap.first) }
+        (λ gap. IsGap held.now area gap.place gap.first blocks
+        × IsLowestFit (record { blocks = area; held = held.now }) blocks gap.first) }
 {
     let mut from = 0;
     for (place, extent) in held.iter().enumerate() {
@@ -93,7 +94,8 @@ pub(crate) fn gap_at(held: &[Extent], area: u32, place: usize) -> Option<Extent>
 pub(crate) fn place_of(held: &[Extent], area: u32, wanted: Extent) -> Option<usize>
     requires nonempty { 0 < wanted.blocks }
     requires laid { IsLaid 0 area held.now }
-    ensures { MatchOption result (¬ IsFreeRun (record { blocks = area; held = held.now }) wanted.first wanted.blocks)
+    ensures { MatchOption result
+        (¬ IsFreeRun (record { blocks = area; held = held.now }) wanted.first wanted.blocks)
         (λ place. IsGap held.now area place wanted.first wanted.blocks) }
 {
     let place = begun_before(held, wanted.first);

@@ -46,7 +46,8 @@ impl<A: Allocator> Filter<A> {
     /// The filter of these keys.
     pub fn build(alloc: A, keys: &[&[u8]]) -> Result<Self, AllocError>
         ensures bytes { IfOk result (λ filter. filter ≡ filter_of (map (λ key. key.now) keys.now)) }
-        ensures members { IfOk result (λ filter. All (λ key. is_perhaps filter key.now ≡ true) keys.now) }
+        ensures members { IfOk result
+            (λ filter. All (λ key. is_perhaps filter key.now ≡ true) keys.now) }
     {
         let mut filter = Filter::new(alloc)?;
         for key in keys {

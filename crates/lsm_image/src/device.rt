@@ -74,8 +74,10 @@ impl<'a, A: Allocator> ImageDevice<'a, A> {
     fn append(&mut self, at: u32, bytes: &[u8; 512]) -> bool
         requires { at < (medium_in self.old).size }
         ensures appended { OnTrue result ((medium_in self.new).history
-            ≡ appended (record { at = at; bytes = bytes.now }) (disk (medium_in self.old)) ∷ (medium_in self.old).history) }
-        ensures not_appended { OnFalse result ((medium_in self.new).history ≡ (medium_in self.old).history) }
+            ≡ appended (record { at = at; bytes = bytes.now }) (disk (medium_in self.old))
+            ∷ (medium_in self.old).history) }
+        ensures not_appended { OnFalse result
+            ((medium_in self.new).history ≡ (medium_in self.old).history) }
         ensures same_size { (medium_in self.new).size ≡ (medium_in self.old).size }
         ensures same_calls { (medium_in self.new).calls ≡ (medium_in self.old).calls }
         ensures same_lasting { (medium_in self.new).lasting ≡ (medium_in self.old).lasting }
@@ -93,7 +95,8 @@ impl<'a, A: Allocator> ImageDevice<'a, A> {
 
     // Makes all pending writes durable.
     fn settle(&mut self)
-        ensures stands { Becomes (synced (disk (medium_in self.old))) (medium_in self.old).history (medium_in self.new).history }
+        ensures stands { Becomes (synced (disk (medium_in self.old))) (medium_in self.old).history
+            (medium_in self.new).history }
         ensures same_size { (medium_in self.new).size ≡ (medium_in self.old).size }
         ensures same_calls { (medium_in self.new).calls ≡ (medium_in self.old).calls }
         ensures same_lasting { (medium_in self.new).lasting ≡ (medium_in self.old).lasting }
@@ -135,9 +138,11 @@ impl<'a, A: Allocator> Device for ImageDevice<'a, A> {
 
     fn read(&mut self, at: u32, out: &mut [u8; 512]) -> Result<(), Fault>
         requires { at < (medium_in self.old).size }
-        ensures bytes { OnOk result (slice_get (seen (disk (medium_in self.old))) at ≡ Some out.new) }
+        ensures bytes { OnOk result
+            (slice_get (seen (disk (medium_in self.old))) at ≡ Some out.new) }
         ensures unchanged { (medium_in self.new).history ≡ (medium_in self.old).history }
-        ensures counted { (medium_in self.new).calls ≡ after_read (is_ok result) (medium_in self.old).calls }
+        ensures counted { (medium_in self.new).calls
+            ≡ after_read (is_ok result) (medium_in self.old).calls }
         ensures same_size { (medium_in self.new).size ≡ (medium_in self.old).size }
         ensures same_lasting { (medium_in self.new).lasting ≡ (medium_in self.old).lasting }
 
@@ -153,18 +158,22 @@ impl<'a, A: Allocator> Device for ImageDevice<'a, A> {
 
     fn write(&mut self, at: u32, bytes: &[u8; 512]) -> Result<(), Fault>
         requires { at < (medium_in self.old).size }
-        ensures pends { OnOk result (Becomes (appended (record { at = at; bytes = bytes.now }) (disk (medium_in self.old)))
+        ensures pends { OnOk result
+            (Becomes (appended (record { at = at; bytes = bytes.now }) (disk (medium_in self.old)))
             (medium_in self.old).history (medium_in self.new).history) }
-        ensures may_pend { OnErr result (((medium_in self.new).history ≡ (medium_in self.old).history)
+        ensures may_pend { OnErr result
+            (((medium_in self.new).history ≡ (medium_in self.old).history)
             ⊎ Becomes (appended (record { at = at; bytes = bytes.now }) (disk (medium_in self.old)))
             (medium_in self.old).history (medium_in self.new).history) }
-        ensures counted { (medium_in self.new).calls ≡ after_write (is_ok result) (medium_in self.old).calls }
+        ensures counted { (medium_in self.new).calls
+            ≡ after_write (is_ok result) (medium_in self.old).calls }
         ensures same_size { (medium_in self.new).size ≡ (medium_in self.old).size }
         ensures same_lasting { (medium_in self.new).lasting ≡ (medium_in self.old).lasting }
 
         // It answers Ok as the fuse says, unless memory for the write is refused: then nothing pends.
         ensures goes_well { OnOk result (IsTrue (goes_well (medium_in self.old))) }
-        ensures no_memory { IsTrue (goes_well (medium_in self.old)) → OnErr result ((medium_in self.new).history ≡ (medium_in self.old).history) }
+        ensures no_memory { IsTrue (goes_well (medium_in self.old))
+            → OnErr result ((medium_in self.new).history ≡ (medium_in self.old).history) }
     {
         let goes_well = self.goes_well();
         let appended = self.append(at, bytes);
@@ -174,9 +183,13 @@ impl<'a, A: Allocator> Device for ImageDevice<'a, A> {
     }
 
     fn sync(&mut self) -> Result<(), Fault>
-        ensures stands { OnOk result (Becomes (synced (disk (medium_in self.old))) (medium_in self.old).history (medium_in self.new).history) }
-        ensures unchanged { OnErr result ((medium_in self.new).history ≡ (medium_in self.old).history) }
-        ensures counted { (medium_in self.new).calls ≡ after_sync (is_ok result) (medium_in self.old).calls }
+        ensures stands { OnOk result
+            (Becomes (synced (disk (medium_in self.old))) (medium_in self.old).history
+            (medium_in self.new).history) }
+        ensures unchanged { OnErr result
+            ((medium_in self.new).history ≡ (medium_in self.old).history) }
+        ensures counted { (medium_in self.new).calls
+            ≡ after_sync (is_ok result) (medium_in self.old).calls }
         ensures same_size { (medium_in self.new).size ≡ (medium_in self.old).size }
         ensures same_lasting { (medium_in self.new).lasting ≡ (medium_in self.old).lasting }
 

@@ -21,11 +21,17 @@ pub fn sectors_of<A: Allocator, D: Device>(
     requires { IsTrue (D.medium device.old).lasting.tells }
     ensures sectors { IfOk result (λ sectors. sectors.items ≡ seen (disk (D.medium device.old))) }
     ensures unchanged { (D.medium device.new).history ≡ (D.medium device.old).history }
-    ensures refused { IfErr result (λ refusal. (refusal ≡ Refusal.NoMemory) ⊎ (refusal ≡ Refusal.Io)) }
-    ensures counted { OnOk result ((D.medium device.new).calls ≡ after_reads (D.medium device.old).size (D.medium device.old).calls) }
-    ensures counts { AtMost (D.medium device.old).size 0 0 (D.medium device.old).calls (D.medium device.new).calls }
-    ensures faults { (D.medium device.new).calls.faults ≡ faults_after (faultless result) (D.medium device.old).calls.faults }
-    ensures stops { IfErr result (λ refusal. refusal ≡ Refusal.Io → IsTrue (D.medium device.new).calls.last_faulted) }
+    ensures refused { IfErr result
+        (λ refusal. (refusal ≡ Refusal.NoMemory) ⊎ (refusal ≡ Refusal.Io)) }
+    ensures counted { OnOk result
+        ((D.medium device.new).calls
+        ≡ after_reads (D.medium device.old).size (D.medium device.old).calls) }
+    ensures counts { AtMost (D.medium device.old).size 0 0 (D.medium device.old).calls
+        (D.medium device.new).calls }
+    ensures faults { (D.medium device.new).calls.faults
+        ≡ faults_after (faultless result) (D.medium device.old).calls.faults }
+    ensures stops { IfErr result
+        (λ refusal. refusal ≡ Refusal.Io → IsTrue (D.medium device.new).calls.last_faulted) }
     ensures same_size { (D.medium device.new).size ≡ (D.medium device.old).size }
     ensures same_lasting { (D.medium device.new).lasting ≡ (D.medium device.old).lasting }
 {

@@ -36,7 +36,8 @@ pub(crate) fn add_kept<A: Allocator>(
     pending: &[Laid],
     keep: &[bool],
 ) -> Result<(), AllocError>
-    ensures { OnOk result (map write_of laid.new.items ≡ map write_of laid.old.items ++ kept keep.now (map write_of pending.now)) }
+    ensures { OnOk result (map write_of laid.new.items ≡ map write_of laid.old.items
+        ++ kept keep.now (map write_of pending.now)) }
 {
     for (i, write) in pending.iter().enumerate() {
         if is_kept(keep, i) {

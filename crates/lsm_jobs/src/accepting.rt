@@ -35,8 +35,10 @@ fn outputs_of<A: Allocator + Clone>(
 ) -> Result<Outputs<A>, Refusal>
     requires kept { AreTables (kept_of (arc_value input.now)) (arc_value images.now).items }
     requires numbers { number + length (arc_value images.now).items ≤ 2 ^ 63 + 1 }
-    ensures placing { IfOk result (λ o. IsPlacing number (arc_value images.now).items extents.old extents.new o.tables) }
-    ensures shown { IfOk result (λ o. (o.input ≡ arc_value input.now) × (o.left ≡ length (placed_blocks o.tables))) }
+    ensures placing { IfOk result
+        (λ o. IsPlacing number (arc_value images.now).items extents.old extents.new o.tables) }
+    ensures shown { IfOk result
+        (λ o. (o.input ≡ arc_value input.now) × (o.left ≡ length (placed_blocks o.tables))) }
     ensures no_space { result ≡ Err NoSpace → FindNoRoom extents.old (arc_value images.now).items }
     ensures refusals { IfErr result (λ refusal. (refusal ≡ NoSpace) ⊎ (refusal ≡ NoMemory)) }
     ensures unchanged { OnErr result (extents.new ≡ extents.old) }
@@ -54,7 +56,8 @@ fn outputs_of<A: Allocator + Clone>(
 impl<A: Allocator> Slots<A> {
     /// The place of a frozen job, and its input.
     fn frozen(&self, job: u64) -> Result<(usize, &Arc<Input<A>, A>), Refusal>
-        ensures found { IfOk result (λ found. IsFrozenAt job self.now.slots found.0 (arc_value found.1.now)) }
+        ensures found { IfOk result
+            (λ found. IsFrozenAt job self.now.slots found.0 (arc_value found.1.now)) }
         ensures refused { IfErr result (IsNotFrozen (slot_of job self.now.slots)) }
     {
         let (place, held) = self.find(job)?;
@@ -68,7 +71,8 @@ impl<A: Allocator> Slots<A> {
     /// `WrongState` exactly where the job is not frozen, or with `NoMemory`. No memory is taken: that comes only of an `Arc` with 2^63
     /// handles, but no clause says so.
     pub fn input(&self, job: u64) -> Result<Arc<Input<A>, A>, Refusal>
-        ensures input { IfOk result (λ input. HasInput (arc_value input) (slot_of job self.now.slots)) }
+        ensures input { IfOk result
+            (λ input. HasInput (arc_value input) (slot_of job self.now.slots)) }
         ensures refused { IfErr result (RefusesInput (slot_of job self.now.slots)) }
     {
         let (_place, input) = self.frozen(job)?;
@@ -95,8 +99,12 @@ impl<A: Allocator> Slots<A> {
         A: Clone,
         requires { next_table ≤ 2 ^ 63 + 1 }
         ensures next { IfOk result (λ next. next ≡ next_table + length built.now.images) }
-        ensures accepted { OnOk result (IsAccepted job next_table built.now.input built.now.images extents.old extents.new self.old self.new) }
-        ensures refused { IfErr result (RefusesResult next_table built.now.input built.now.images extents.old (slot_of job self.old.slots)) }
+        ensures accepted { OnOk result
+            (IsAccepted job next_table built.now.input built.now.images extents.old extents.new
+            self.old self.new) }
+        ensures refused { IfErr result
+            (RefusesResult next_table built.now.input built.now.images extents.old
+            (slot_of job self.old.slots)) }
         ensures unchanged { OnErr result ((self.new ≡ self.old) × (extents.new ≡ extents.old)) }
     {
         let (place, input) = self.frozen(job)?;

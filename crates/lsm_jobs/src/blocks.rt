@@ -64,7 +64,8 @@ fn add_block<A: Allocator + Clone>(
 ) -> Result<(), Refusal>
     requires { AreOrdered run.old.items }
     ensures goes_on { OnOk result (GoesOn run.old.items (entries_in block.now) run.new.items) }
-    ensures bad { result ≡ Err BadTable → (new : List Version) → GoesOn run.old.items (entries_in block.now) new → ⊥ }
+    ensures bad { result ≡ Err BadTable → (new : List Version)
+        → GoesOn run.old.items (entries_in block.now) new → ⊥ }
     ensures longer { IsLonger run.old.items run.new.items }
     ensures ordered { AreOrdered run.new.items }
     ensures refused { IfErr result (λ refusal. (refusal ≡ BadTable) ⊎ (refusal ≡ NoMemory)) }
@@ -89,13 +90,19 @@ fn read_blocks<D: Device, A: Allocator + Clone>(
     requires ordered { AreOrdered run.old.items }
     requires within { sector + 8 * blocks ≤ (D.medium device.old).size }
     ensures goes_on { IsTrue (D.medium device.old).lasting.tells → OnOk result
-        (GoesOn run.old.items (items_in (blocks_from (seen (disk (D.medium device.old))) sector blocks)) run.new.items) }
-    ensures bad { IsTrue (D.medium device.old).lasting.tells → result ≡ Err BadTable → (new : List Version)
-        → GoesOn run.old.items (items_in (blocks_from (seen (disk (D.medium device.old))) sector blocks)) new → ⊥ }
+        (GoesOn run.old.items
+        (items_in (blocks_from (seen (disk (D.medium device.old))) sector blocks))
+        run.new.items) }
+    ensures bad { IsTrue (D.medium device.old).lasting.tells → result ≡ Err BadTable
+        → (new : List Version)
+        → GoesOn run.old.items
+        (items_in (blocks_from (seen (disk (D.medium device.old))) sector blocks)) new → ⊥ }
     ensures longer { IsLonger run.old.items run.new.items }
     ensures ordered { AreOrdered run.new.items }
-    ensures refused { IfErr result (λ refusal. (refusal ≡ Io) ⊎ ((refusal ≡ BadTable) ⊎ (refusal ≡ NoMemory))) }
-    ensures device { ReadsBlocks blocks (faultless result) (D.medium device.old) (D.medium device.new) }
+    ensures refused { IfErr result
+        (λ refusal. (refusal ≡ Io) ⊎ ((refusal ≡ BadTable) ⊎ (refusal ≡ NoMemory))) }
+    ensures device { ReadsBlocks blocks (faultless result) (D.medium device.old)
+        (D.medium device.new) }
 {
     for i in 0..blocks {
         let mut bytes = [0; 4_096];
@@ -118,13 +125,22 @@ pub(crate) fn read_tables<D: Device, A: Allocator + Clone>(
     requires ordered { AreOrdered run.old.items }
     requires within { AllByRecursion (LiesWithin (D.medium device.old).size area) tables.now }
     ensures goes_on { IsTrue (D.medium device.old).lasting.tells → OnOk result
-        (GoesOn run.old.items (items_in (take most (drop done (blocks_in (seen (disk (D.medium device.old))) area tables.now)))) run.new.items) }
-    ensures bad { IsTrue (D.medium device.old).lasting.tells → result ≡ Err BadTable → (new : List Version)
-        → GoesOn run.old.items (items_in (take most (drop done (blocks_in (seen (disk (D.medium device.old))) area tables.now)))) new → ⊥ }
+        (GoesOn run.old.items
+        (items_in (take most
+        (drop done (blocks_in (seen (disk (D.medium device.old))) area tables.now))))
+        run.new.items) }
+    ensures bad { IsTrue (D.medium device.old).lasting.tells → result ≡ Err BadTable
+        → (new : List Version)
+        → GoesOn run.old.items
+        (items_in (take most
+        (drop done (blocks_in (seen (disk (D.medium device.old))) area tables.now)))) new
+        → ⊥ }
     ensures longer { IsLonger run.old.items run.new.items }
     ensures ordered { AreOrdered run.new.items }
-    ensures refused { IfErr result (λ refusal. (refusal ≡ Io) ⊎ ((refusal ≡ BadTable) ⊎ (refusal ≡ NoMemory))) }
-    ensures device { ReadsBlocks (min most (data_blocks tables.now - done)) (faultless result) (D.medium device.old) (D.medium device.new) }
+    ensures refused { IfErr result
+        (λ refusal. (refusal ≡ Io) ⊎ ((refusal ≡ BadTable) ⊎ (refusal ≡ NoMemory))) }
+    ensures device { ReadsBlocks (min most (data_blocks tables.now - done)) (faultless result)
+        (D.medium device.old) (D.medium device.new) }
 {
     let mut skip = done;
     let mut left = most;

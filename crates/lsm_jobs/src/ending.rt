@@ -45,8 +45,11 @@ impl<A: Allocator> Slots<A> {
         requires { AreHandedOut (outputs_of (slot_of job self.old.slots)) extents.old }
         ensures absent { (result ≡ Err NoSuchJob) ↔ (slot_of job self.old.slots ≡ None) }
         ensures refusals { IfErr result (λ refusal. refusal ≡ NoSuchJob) }
-        ensures freed { OnOk result (self.new ≡ record { next = self.old.next; slots = with_held job None self.old.slots }) }
-        ensures given_back { OnOk result (extents.new ≡ all_given_back (outputs_of (slot_of job self.old.slots)) extents.old) }
+        ensures freed { OnOk result
+            (self.new ≡ record
+            { next = self.old.next; slots = with_held job None self.old.slots }) }
+        ensures given_back { OnOk result
+            (extents.new ≡ all_given_back (outputs_of (slot_of job self.old.slots)) extents.old) }
         ensures unchanged { OnErr result ((self.new ≡ self.old) × (extents.new ≡ extents.old)) }
     {
         let (place, held) = self.find(job)?;

@@ -84,11 +84,14 @@ impl<A: Allocator + Clone> Gathering<A> {
         ensures left { IfOk result (λ left. left ≡ blocks_left tables.now self.new) }
         ensures goes_on { IsTrue (D.medium device.old).lasting.tells → OnOk result
             (AllGoOn (seen (disk (D.medium device.old))) area tables.now self.old self.new) }
-        ensures bad { IsTrue (D.medium device.old).lasting.tells → result ≡ Err BadTable → (new : ReadSoFar)
+        ensures bad { IsTrue (D.medium device.old).lasting.tells → result ≡ Err BadTable
+            → (new : ReadSoFar)
             → AllGoOn (seen (disk (D.medium device.old))) area tables.now self.old new → ⊥ }
         ensures grown { IsGrown self.old self.new }
-        ensures refused { IfErr result (λ refusal. (refusal ≡ Io) ⊎ ((refusal ≡ BadTable) ⊎ (refusal ≡ NoMemory))) }
-        ensures device { ReadsBlocks (min 8 (blocks_left tables.now self.old)) (faultless result) (D.medium device.old) (D.medium device.new) }
+        ensures refused { IfErr result
+            (λ refusal. (refusal ≡ Io) ⊎ ((refusal ≡ BadTable) ⊎ (refusal ≡ NoMemory))) }
+        ensures device { ReadsBlocks (min 8 (blocks_left tables.now self.old)) (faultless result)
+            (D.medium device.old) (D.medium device.new) }
     {
         let blocks = data_blocks(tables);
         let from = self.done;
@@ -114,7 +117,12 @@ impl<A: Allocator> Gathering<A> {
     /// Cuts each run back to these lengths, and the count of read blocks to `done`.
     fn take_back(&mut self, lengths: &[usize], done: usize)
         requires { length lengths.now ≡ length self.old.runs }
-        ensures { self.new ≡ record { runs = fronts lengths.now self.old.runs; done = done; cuts = self.old.cuts; bottom = self.old.bottom } }
+        ensures { self.new ≡ record {
+          runs = fronts lengths.now self.old.runs;
+          done = done;
+          cuts = self.old.cuts;
+          bottom = self.old.bottom;
+        } }
     {
         cut_back(&mut self.runs, lengths);
         self.done = done;
@@ -159,13 +167,17 @@ impl<A: Allocator + Clone> Gathering<A> {
         requires few { length tables.now ≤ 1024 }
         requires count { length self.runs ≡ length (ascending_runs tables.now) }
         requires within { AllByRecursion (LiesWithin (D.medium device.old).size area) tables.now }
-        ensures reads { IfOk result.1 (λ left. ReadsOn area (D.medium device.old) tables.now left self result.0) }
-        ensures bad { IsTrue (D.medium device.old).lasting.tells → result.1 ≡ Err BadTable → (new : ReadSoFar)
+        ensures reads { IfOk result.1
+            (λ left. ReadsOn area (D.medium device.old) tables.now left self result.0) }
+        ensures bad { IsTrue (D.medium device.old).lasting.tells → result.1 ≡ Err BadTable
+            → (new : ReadSoFar)
             → AllGoOn (seen (disk (D.medium device.old))) area tables.now self new → ⊥ }
         ensures ordered { AreRuns self.runs }
         ensures unchanged { OnErr result.1 (result.0 ≡ Reading self) }
-        ensures refused { IfErr result.1 (λ refusal. (refusal ≡ Io) ⊎ ((refusal ≡ BadTable) ⊎ (refusal ≡ NoMemory))) }
-        ensures device { ReadsBlocks (min 8 (blocks_left tables.now self)) (faultless result.1) (D.medium device.old) (D.medium device.new) }
+        ensures refused { IfErr result.1
+            (λ refusal. (refusal ≡ Io) ⊎ ((refusal ≡ BadTable) ⊎ (refusal ≡ NoMemory))) }
+        ensures device { ReadsBlocks (min 8 (blocks_left tables.now self)) (faultless result.1)
+            (D.medium device.old) (D.medium device.new) }
     {
         let mut gathering = self;
         let Ok((own, lengths)) = gathering.room(alloc) else {

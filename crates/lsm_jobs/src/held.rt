@@ -99,7 +99,8 @@ impl<A: Allocator> HeldJob<A> {
 
     /// Its input, where it is frozen.
     pub(crate) fn frozen(&self) -> Option<&Arc<Input<A>, A>>
-        ensures { MatchOption result (is_frozen self.now.stage ≡ false) (λ input. (self.now.stage ≡ Frozen) × (self.now.input ≡ arc_value input.now)) }
+        ensures { MatchOption result (is_frozen self.now.stage ≡ false)
+            (λ input. (self.now.stage ≡ Frozen) × (self.now.input ≡ arc_value input.now)) }
     {
         match &self.work {
             Work::Reading(_) => None,
@@ -110,7 +111,8 @@ impl<A: Allocator> HeldJob<A> {
 
     /// Its outputs, where it is writing.
     pub(crate) fn writing(&self) -> Option<&Outputs<A>>
-        ensures { MatchOption result (is_writing self.now.stage ≡ false) (λ outputs. self.now.stage ≡ Writing outputs.now.tables outputs.now.left) }
+        ensures { MatchOption result (is_writing self.now.stage ≡ false)
+            (λ outputs. self.now.stage ≡ Writing outputs.now.tables outputs.now.left) }
     {
         match &self.work {
             Work::Reading(_) => None,
@@ -132,7 +134,8 @@ impl<A: Allocator> HeldJob<A> {
 
     /// Its outputs, where all of their blocks are written, and what they take the place of.
     pub(crate) fn written(&self) -> Option<Written<'_, A>>
-        ensures { MatchOption result (is_written self.now.stage ≡ false) (λ written. IsWhole written (Some self.now)) }
+        ensures { MatchOption result (is_written self.now.stage ≡ false)
+            (λ written. IsWhole written (Some self.now)) }
     {
         if !self.is_written() {
             return None;
@@ -147,7 +150,12 @@ impl<A: Allocator> HeldJob<A> {
     /// Notes that `count` more blocks are written.
     pub(crate) fn note_written(&mut self, count: u32)
         requires { count ≤ left_at self.old.stage }
-        ensures { self.new ≡ record { number = self.old.number; job = self.old.job; input = self.old.input; stage = less_left count self.old.stage } }
+        ensures { self.new ≡ record {
+          number = self.old.number;
+          job = self.old.job;
+          input = self.old.input;
+          stage = less_left count self.old.stage;
+        } }
     {
         match &mut self.work {
             Work::Reading(_) => {}
@@ -158,7 +166,12 @@ impl<A: Allocator> HeldJob<A> {
 
     /// Goes over to the writing of outputs.
     pub(crate) fn set_outputs(&mut self, outputs: Outputs<A>)
-        ensures { self.new ≡ record { number = self.old.number; job = self.old.job; input = outputs.input; stage = Writing outputs.tables outputs.left } }
+        ensures { self.new ≡ record {
+          number = self.old.number;
+          job = self.old.job;
+          input = outputs.input;
+          stage = Writing outputs.tables outputs.left;
+        } }
     {
         self.work = Work::Writing(outputs);
     }

@@ -50,8 +50,11 @@ impl<A: Allocator> Slots<A> {
         // What the job took in is handed out.
         requires { AreHandedOut (inputs_of (slot_of job self.old.slots)) extents.old }
         ensures written { OnOk result (IsAtStage is_written (slot_of job self.old.slots)) }
-        ensures freed { OnOk result (self.new ≡ record { next = self.old.next; slots = with_held job None self.old.slots }) }
-        ensures given_back { OnOk result (extents.new ≡ all_given_back (inputs_of (slot_of job self.old.slots)) extents.old) }
+        ensures freed { OnOk result
+            (self.new ≡ record
+            { next = self.old.next; slots = with_held job None self.old.slots }) }
+        ensures given_back { OnOk result
+            (extents.new ≡ all_given_back (inputs_of (slot_of job self.old.slots)) extents.old) }
         ensures refused { IfErr result (IsNotWritten (slot_of job self.old.slots)) }
         ensures unchanged { OnErr result ((self.new ≡ self.old) × (extents.new ≡ extents.old)) }
     {

@@ -51,7 +51,8 @@ fn add_numbers<A: Allocator + Clone>(
     numbers: &mut BTreeSet<u64, A>,
     tables: &[PlacedTable<A>],
 ) -> Result<(), AllocError>
-    ensures { OnOk result ((others : List Table) → AreNumbersOf numbers.old others → AreNumbersOf numbers.new (others ++ tables.now)) }
+    ensures { OnOk result ((others : List Table) → AreNumbersOf numbers.old others
+        → AreNumbersOf numbers.new (others ++ tables.now)) }
 {
     for table in tables {
         numbers.insert(table.number())?;
@@ -67,7 +68,8 @@ impl<A: Allocator + Clone> MergeTables<A> {
         upper: Vec<PlacedTable<A>, A>,
         lower: &[PlacedTable<A>],
     ) -> Result<MergeTables<A>, AllocError>
-        ensures { IfOk result (λ m. m ≡ record { level = level; upper = upper.items; lower = lower.now }) }
+        ensures { IfOk result (λ m. m
+            ≡ record { level = level; upper = upper.items; lower = lower.now }) }
     {
         let uppers = upper.len();
         let mut tables = upper;

@@ -68,7 +68,8 @@ fn write_one<D: Device, A: Allocator>(
     requires same { length images.now ≡ length tables.now }
     requires at { at < length (placed_blocks tables.now) }
     requires within { AllByRecursion (EndsWithin (D.medium device.old).size area) tables.now }
-    ensures written { WritesBlocks area (take 1 (drop at (placed_blocks tables.now))) (is_ok result) (D.medium device.old) (D.medium device.new) }
+    ensures written { WritesBlocks area (take 1 (drop at (placed_blocks tables.now))) (is_ok result)
+        (D.medium device.old) (D.medium device.new) }
     ensures calls { AtMost 0 8 0 (D.medium device.old).calls (D.medium device.new).calls }
 {
     let Some((i, block)) = place_of(images, at) else {
@@ -96,7 +97,8 @@ fn write_some<D: Device, A: Allocator>(
     requires same { length images.now ≡ length tables.now }
     requires count { from + count ≤ length (placed_blocks tables.now) }
     requires within { AllByRecursion (EndsWithin (D.medium device.old).size area) tables.now }
-    ensures written { WritesBlocks area (take count (drop from (placed_blocks tables.now))) (is_ok result) (D.medium device.old) (D.medium device.new) }
+    ensures written { WritesBlocks area (take count (drop from (placed_blocks tables.now)))
+        (is_ok result) (D.medium device.old) (D.medium device.new) }
     ensures calls { AtMost 0 (8 * count) 0 (D.medium device.old).calls (D.medium device.new).calls }
     ensures untouched { count ≡ 0 → D.medium device.new ≡ D.medium device.old }
     ensures some { OnErr result (0 < count) }
@@ -154,9 +156,12 @@ impl<A: Allocator> Outputs<A> {
         requires left { count ≤ self.now.left }
         requires eight { count ≤ 8 }
         requires most { count < 8 → count ≡ self.now.left }
-        requires within { AllByRecursion (EndsWithin (D.medium device.old).size area) self.now.tables }
-        ensures written { WritesBlocks area (next_blocks self.now.tables self.now.left) (is_ok result) (D.medium device.old) (D.medium device.new) }
-        ensures calls { AtMost 0 (8 * count) 0 (D.medium device.old).calls (D.medium device.new).calls }
+        requires within { AllByRecursion (EndsWithin (D.medium device.old).size area)
+            self.now.tables }
+        ensures written { WritesBlocks area (next_blocks self.now.tables self.now.left)
+            (is_ok result) (D.medium device.old) (D.medium device.new) }
+        ensures calls { AtMost 0 (8 * count) 0 (D.medium device.old).calls
+            (D.medium device.new).calls }
         ensures untouched { count ≡ 0 → D.medium device.new ≡ D.medium device.old }
         ensures some { OnErr result (0 < count) }
     {
@@ -173,7 +178,11 @@ impl<A: Allocator> Outputs<A> {
     /// Notes that `count` more blocks are written.
     pub(crate) fn note_written(&mut self, count: u32)
         requires { count ≤ self.old.left }
-        ensures { self.new ≡ record { input = self.old.input; tables = self.old.tables; left = self.old.left - count } }
+        ensures { self.new ≡ record {
+          input = self.old.input;
+          tables = self.old.tables;
+          left = self.old.left - count;
+        } }
     {
         self.written += count;
         self.left -= count;

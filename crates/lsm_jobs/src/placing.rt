@@ -37,7 +37,9 @@ fn place<A: Allocator + Clone>(
     ensures placed { IfOk result (λ t. IsPlaced number extents.old image.now t) }
     ensures taken { IfOk result (λ t. extents.new ≡ handed_out (extent_of t) extents.old) }
     ensures undone { IfOk result (λ t. given_back (extent_of t) extents.new ≡ extents.old) }
-    ensures held { IfOk result (λ t. (others : List Table) → AreHandedOut others extents.old → AreHandedOut (others ++ t ∷ []) extents.new) }
+    ensures held { IfOk result
+        (λ t. (others : List Table) → AreHandedOut others extents.old
+        → AreHandedOut (others ++ t ∷ []) extents.new) }
     ensures no_space { result ≡ Err NoSpace → HasNoFit extents.old (extent_size image.now) }
     ensures refusals { IfErr result (λ refusal. (refusal ≡ NoSpace) ⊎ (refusal ≡ NoMemory)) }
     ensures unchanged { OnErr result (extents.new ≡ extents.old) }

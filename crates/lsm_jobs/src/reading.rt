@@ -71,11 +71,16 @@ impl<A: Allocator + Clone> HeldJob<A> {
     ) -> (HeldJob<A>, Result<usize, Refusal>)
         requires { CanBeRead (D.medium device.old).size area self.job }
         ensures wrong { (result.1 ≡ Err WrongState) ↔ (is_reading self.stage ≡ false) }
-        ensures reads { IfOk result.1 (λ left. SlotReadsOn area (D.medium device.old) left self result.0) }
-        ensures bad { IsTrue (D.medium device.old).lasting.tells → result.1 ≡ Err BadTable → IsBadNext area (D.medium device.old) self }
+        ensures reads { IfOk result.1
+            (λ left. SlotReadsOn area (D.medium device.old) left self result.0) }
+        ensures bad { IsTrue (D.medium device.old).lasting.tells → result.1 ≡ Err BadTable
+            → IsBadNext area (D.medium device.old) self }
         ensures unchanged { OnErr result.1 (result.0 ≡ self) }
-        ensures refused { IfErr result.1 (λ refusal. (refusal ≡ WrongState) ⊎ ((refusal ≡ Io) ⊎ ((refusal ≡ BadTable) ⊎ (refusal ≡ NoMemory)))) }
-        ensures device { ReadsBlocks (min 8 (left_to_read self.stage)) (faultless result.1) (D.medium device.old) (D.medium device.new) }
+        ensures refused { IfErr result.1
+            (λ refusal. (refusal ≡ WrongState)
+            ⊎ ((refusal ≡ Io) ⊎ ((refusal ≡ BadTable) ⊎ (refusal ≡ NoMemory)))) }
+        ensures device { ReadsBlocks (min 8 (left_to_read self.stage)) (faultless result.1)
+            (D.medium device.old) (D.medium device.new) }
     {
         let HeldJob {
             number,
@@ -109,7 +114,8 @@ impl<A: Allocator> Slots<A> {
     fn lift(&mut self, place: usize) -> Option<HeldJob<A>>
         requires { place < length self.old.slots }
         ensures held { result ≡ slice_index_or self.old.slots place None }
-        ensures free { self.new ≡ record { next = self.old.next; slots = slice_set self.old.slots place None } }
+        ensures free { self.new
+            ≡ record { next = self.old.next; slots = slice_set self.old.slots place None } }
     {
         self.slots[place].take()
     }
@@ -117,7 +123,8 @@ impl<A: Allocator> Slots<A> {
     /// Puts a job into a slot.
     fn lay(&mut self, place: usize, held: HeldJob<A>)
         requires { place < length self.old.slots }
-        ensures { self.new ≡ record { next = self.old.next; slots = slice_set self.old.slots place (Some held) } }
+        ensures { self.new ≡ record
+            { next = self.old.next; slots = slice_set self.old.slots place (Some held) } }
     {
         self.slots[place] = Some(held);
     }
@@ -153,24 +160,35 @@ impl<A: Allocator> Slots<A> {
         requires { JobCanBeRead (D.medium device.old).size area job self.old.slots }
 
         // The next blocks are read, and each run goes on with what their bytes spell.
-        ensures reads { IfOk result (λ left. JobReadsOn area (D.medium device.old) job left self.old self.new) }
+        ensures reads { IfOk result
+            (λ left. JobReadsOn area (D.medium device.old) job left self.old self.new) }
 
         // Each refusal comes as it says, and leaves all as it was.
         ensures absent { (result ≡ Err NoSuchJob) ↔ (slot_of job self.old.slots ≡ None) }
-        ensures wrong { (result ≡ Err WrongState) ↔ (is_not_at is_reading (slot_of job self.old.slots) ≡ true) }
-        ensures bad { IsTrue (D.medium device.old).lasting.tells → result ≡ Err BadTable → (slot : Slot) → slot_of job self.old.slots ≡ Some slot
+        ensures wrong { (result ≡ Err WrongState)
+            ↔ (is_not_at is_reading (slot_of job self.old.slots) ≡ true) }
+        ensures bad { IsTrue (D.medium device.old).lasting.tells → result ≡ Err BadTable
+            → (slot : Slot) → slot_of job self.old.slots ≡ Some slot
             → IsBadNext area (D.medium device.old) slot }
-        ensures refused { IfErr result (λ refusal. (refusal ≡ NoSuchJob) ⊎ ((refusal ≡ WrongState) ⊎ ((refusal ≡ Io) ⊎ ((refusal ≡ BadTable) ⊎ (refusal ≡ NoMemory))))) }
+        ensures refused { IfErr result
+            (λ refusal. (refusal ≡ NoSuchJob)
+            ⊎ ((refusal ≡ WrongState)
+            ⊎ ((refusal ≡ Io) ⊎ ((refusal ≡ BadTable) ⊎ (refusal ≡ NoMemory))))) }
         ensures same { OnErr result (self.new ≡ self.old) }
 
         // The device is only read: the blocks that are left, eight at most. Fails with Io only for a read that faulted,
         // its last. Where no block is left the device isn't touched.
-        ensures faults { (D.medium device.new).calls.faults ≡ faults_after (faultless result) (D.medium device.old).calls.faults }
-        ensures stops { IfErr result (λ refusal. refusal ≡ Io → IsTrue (D.medium device.new).calls.last_faulted) }
+        ensures faults { (D.medium device.new).calls.faults
+            ≡ faults_after (faultless result) (D.medium device.old).calls.faults }
+        ensures stops { IfErr result
+            (λ refusal. refusal ≡ Io → IsTrue (D.medium device.new).calls.last_faulted) }
         ensures io { result ≡ Err Io → 0 < to_read (slot_of job self.old.slots) }
-        ensures calls { AtMost (8 * min 8 (to_read (slot_of job self.old.slots))) 0 0 (D.medium device.old).calls (D.medium device.new).calls }
-        ensures untouched { to_read (slot_of job self.old.slots) ≡ 0 → D.medium device.new ≡ D.medium device.old }
-        ensures unchanged { IsTrue (D.medium device.old).lasting.tells → (D.medium device.new).history ≡ (D.medium device.old).history }
+        ensures calls { AtMost (8 * min 8 (to_read (slot_of job self.old.slots))) 0 0
+            (D.medium device.old).calls (D.medium device.new).calls }
+        ensures untouched { to_read (slot_of job self.old.slots) ≡ 0
+            → D.medium device.new ≡ D.medium device.old }
+        ensures unchanged { IsTrue (D.medium device.old).lasting.tells
+            → (D.medium device.new).history ≡ (D.medium device.old).history }
         ensures same_size { (D.medium device.new).size ≡ (D.medium device.old).size }
         ensures same_lasting { (D.medium device.new).lasting ≡ (D.medium device.old).lasting }
     {

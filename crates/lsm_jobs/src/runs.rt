@@ -44,7 +44,8 @@ pub(crate) fn empty_runs<A: Allocator + Clone>(
     alloc: &A,
     tables: &[PlacedTable<A>],
 ) -> Result<Vec<Vec<Entry<A>, A>, A>, AllocError>
-    ensures { IfOk result (λ runs. items_of runs.items ≡ map (λ run. []) (ascending_runs tables.now)) }
+    ensures { IfOk result (λ runs. items_of runs.items
+        ≡ map (λ run. []) (ascending_runs tables.now)) }
 {
     let mut runs = Vec::new(alloc.clone()?);
     for (i, table) in tables.iter().enumerate() {
@@ -95,14 +96,20 @@ pub(crate) fn read_runs<D: Device, A: Allocator + Clone>(
     requires ordered { AreRuns (items_of runs.old) }
     requires within { AllByRecursion (LiesWithin (D.medium device.old).size area) tables.now }
     ensures goes_on { IsTrue (D.medium device.old).lasting.tells → OnOk result
-        (RunsGoOn (seen (disk (D.medium device.old))) area from to (ascending_runs tables.now) (items_of runs.old) (items_of runs.new)) }
-    ensures bad { IsTrue (D.medium device.old).lasting.tells → result ≡ Err BadTable → (new : List (List Version))
-        → RunsGoOn (seen (disk (D.medium device.old))) area from to (ascending_runs tables.now) (items_of runs.old) new → ⊥ }
-    ensures longer { fronts (map length (items_of runs.old)) (items_of runs.new) ≡ items_of runs.old }
+        (RunsGoOn (seen (disk (D.medium device.old))) area from to (ascending_runs tables.now)
+        (items_of runs.old) (items_of runs.new)) }
+    ensures bad { IsTrue (D.medium device.old).lasting.tells → result ≡ Err BadTable
+        → (new : List (List Version))
+        → RunsGoOn (seen (disk (D.medium device.old))) area from to (ascending_runs tables.now)
+        (items_of runs.old) new → ⊥ }
+    ensures longer { fronts (map length (items_of runs.old)) (items_of runs.new)
+        ≡ items_of runs.old }
     ensures same_count { length runs.new ≡ length runs.old }
     ensures ordered { AreRuns (items_of runs.new) }
-    ensures refused { IfErr result (λ refusal. (refusal ≡ Io) ⊎ ((refusal ≡ BadTable) ⊎ (refusal ≡ NoMemory))) }
-    ensures device { ReadsBlocks (to - from) (faultless result) (D.medium device.old) (D.medium device.new) }
+    ensures refused { IfErr result
+        (λ refusal. (refusal ≡ Io) ⊎ ((refusal ≡ BadTable) ⊎ (refusal ≡ NoMemory))) }
+    ensures device { ReadsBlocks (to - from) (faultless result) (D.medium device.old)
+        (D.medium device.new) }
 {
     let mut behind = tables;
     let mut from = from;

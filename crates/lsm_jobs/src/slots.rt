@@ -100,7 +100,8 @@ fn hold_several<A: Allocator>(slots: &[Option<HeldJob<A>>]) -> bool
 }
 
 fn hold_table<A: Allocator>(slots: &[Option<HeldJob<A>>], number: u64) -> bool
-    ensures { result ≡ list_any (holds (λ job. list_any (λ t. t.number == number) (inputs job))) slots.now }
+    ensures { result ≡ list_any (holds (λ job. list_any (λ t. t.number == number) (inputs job)))
+        slots.now }
 {
     slots.iter().any(|slot| holds_table(slot, number))
 }
@@ -153,7 +154,8 @@ impl<A: Allocator> Slots<A> {
     /// The job of a number, and its place.
     pub(crate) fn find(&self, job: u64) -> Result<(usize, &HeldJob<A>), Refusal>
         ensures found { IfOk result (λ found. IsAt job self.now.slots found.0 found.1.now) }
-        ensures absent { IfErr result (λ refusal. (refusal ≡ NoSuchJob) × (slot_of job self.now.slots ≡ None)) }
+        ensures absent { IfErr result
+            (λ refusal. (refusal ≡ NoSuchJob) × (slot_of job self.now.slots ≡ None)) }
     {
         let Some(place) = place_of(&self.slots, job) else {
             return Err(Refusal::NoSuchJob);
@@ -166,9 +168,14 @@ impl<A: Allocator> Slots<A> {
 
     /// Notes that `count` more blocks of the job at a place are written.
     pub(crate) fn note_written(&mut self, place: usize, count: u32)
-        requires { (number : ℕ) × (slot : Slot) × IsAt number self.old.slots place slot × (count ≤ left_at slot.stage) }
+        requires { (number : ℕ) × (slot : Slot) × IsAt number self.old.slots place slot
+            × (count ≤ left_at slot.stage) }
         ensures { (number : ℕ) (slot : Slot) → IsAt number self.old.slots place slot
-            → self.new ≡ record { next = self.old.next; slots = with_held number (Some (record slot { stage = less_left count slot.stage })) self.old.slots } }
+            → self.new ≡ record {
+              next = self.old.next;
+              slots = with_held number (Some (record slot { stage = less_left count slot.stage }))
+                  self.old.slots;
+            } }
     {
         match &mut self.slots[place] {
             Some(held) => held.note_written(count),
@@ -180,7 +187,16 @@ impl<A: Allocator> Slots<A> {
     pub(crate) fn set_outputs(&mut self, place: usize, outputs: Outputs<A>)
         requires { place < length self.old.slots }
         ensures { (number : ℕ) (slot : Slot) → IsAt number self.old.slots place slot
-            → self.new ≡ record { next = self.old.next; slots = with_held number (Some (record { number = slot.number; job = slot.job; input = outputs.input; stage = Writing outputs.tables outputs.left })) self.old.slots } }
+            → self.new ≡ record {
+              next = self.old.next;
+              slots = with_held number
+                  (Some (record {
+                    number = slot.number;
+                    job = slot.job;
+                    input = outputs.input;
+                    stage = Writing outputs.tables outputs.left;
+                  })) self.old.slots;
+            } }
     {
         match &mut self.slots[place] {
             Some(held) => held.set_outputs(outputs),

@@ -113,7 +113,8 @@ fn merge_of<A: Allocator + Clone>(
     bottom: bool,
 ) -> Result<HeldJob<A>, AllocError>
     requires { IsCuts cuts.items }
-    ensures { IfOk result (λ held. held ≡ slot_with number [] cuts.items bottom (Merge level upper.items lower.now)) }
+    ensures { IfOk result (λ held. held
+        ≡ slot_with number [] cuts.items bottom (Merge level upper.items lower.now)) }
 {
     let tables = MergeTables::new(alloc, level, upper, lower)?;
     let gathering = Gathering::new(alloc, tables.tables(), cuts, bottom)?;
@@ -136,7 +137,9 @@ fn job_for<A: Allocator + Clone>(
     requires entries { IfSome sealed (λ s. AllByRecursion IsEntry s.now) }
     requires cuts { IsCuts cuts.items }
     requires waits { is_flush (job_of job.now) ≡ true → is_some sealed ≡ true }
-    ensures { IfOk result (λ held. held ≡ slot_for number (sealed_versions (option_map (λ s. s.now) sealed.entry)) cuts.items levels.now (job_of job.now)) }
+    ensures { IfOk result (λ held. held
+        ≡ slot_for number (sealed_versions (option_map (λ s. s.now) sealed.entry)) cuts.items
+        levels.now (job_of job.now)) }
 {
     let bottom = levels.is_bottom(job);
     match job {
@@ -179,7 +182,8 @@ impl<A: Allocator> Slots<A> {
         asked: Option<Choice>,
         waiting: bool,
     ) -> Option<Pick<'l, A>>
-        ensures { option_map job_of result ≡ asked_job waiting asked levels.now (held_jobs self.now.slots) }
+        ensures { option_map job_of result
+            ≡ asked_job waiting asked levels.now (held_jobs self.now.slots) }
     {
         match asked {
             Some(choice) => levels.choose(choice, self),
@@ -194,7 +198,8 @@ impl<A: Allocator> Slots<A> {
         asked: Option<Choice>,
         waiting: bool,
     ) -> Option<(usize, Pick<'l, A>)>
-        ensures given { option_map (λ n. job_of n.1) result ≡ given_job waiting asked levels.now self.now.slots }
+        ensures given { option_map (λ n. job_of n.1) result
+            ≡ given_job waiting asked levels.now self.now.slots }
         ensures place { IfSome result (λ n. free_from 0 self.now.slots ≡ Some n.0) }
         ensures waits { IfSome result (λ n. is_flush (job_of n.1) ≡ true → waiting ≡ true) }
     {
@@ -212,7 +217,8 @@ impl<A: Allocator> Slots<A> {
         requires place { free_from 0 self.old.slots ≡ Some place }
         requires number { self.old.next ≤ 2 ^ 63 }
         ensures number { result ≡ self.old.next }
-        ensures held { self.new ≡ record { next = self.old.next + 1; slots = with_slot job self.old.slots } }
+        ensures held { self.new
+            ≡ record { next = self.old.next + 1; slots = with_slot job self.old.slots } }
     {
         let number = self.next;
         self.slots[place] = Some(job);
@@ -229,8 +235,11 @@ impl<A: Allocator> Slots<A> {
         asked: Option<Choice>,
         waiting: bool,
     ) -> Result<bool, Refusal>
-        ensures given { IfOk result (λ given. given ≡ is_some (given_job waiting asked levels.now self.now.slots)) }
-        ensures exhausted { (result ≡ Err Exhausted) ↔ ((is_some (given_job waiting asked levels.now self.now.slots) ≡ true) × (2 ^ 63 < self.now.next)) }
+        ensures given { IfOk result
+            (λ given. given ≡ is_some (given_job waiting asked levels.now self.now.slots)) }
+        ensures exhausted { (result ≡ Err Exhausted)
+            ↔ ((is_some (given_job waiting asked levels.now self.now.slots) ≡ true)
+            × (2 ^ 63 < self.now.next)) }
         ensures refusals { IfErr result (λ refusal. refusal ≡ Exhausted) }
     {
         let has_next = self.next_job(levels, asked, waiting).is_some();
@@ -256,9 +265,16 @@ impl<A: Allocator> Slots<A> {
         A: Clone,
         requires entries { IfSome sealed (λ s. AllByRecursion IsEntry s.now) }
         requires cuts { IsCuts cuts.items }
-        ensures given { IfOk result (λ taken. taken ≡ option_map (told_of self.old.next) (given_job (is_some sealed.entry) asked levels.now self.old.slots)) }
-        ensures taken { OnOk result (self.new ≡ with_taken (sealed_versions (option_map (λ s. s.now) sealed.entry)) cuts.items levels.now (given_job (is_some sealed.entry) asked levels.now self.old.slots) self.old) }
-        ensures exhausted { (result ≡ Err Exhausted) ↔ ((is_some (given_job (is_some sealed.entry) asked levels.now self.old.slots) ≡ true) × (2 ^ 63 < self.old.next)) }
+        ensures given { IfOk result
+            (λ taken. taken ≡ option_map (told_of self.old.next)
+            (given_job (is_some sealed.entry) asked levels.now self.old.slots)) }
+        ensures taken { OnOk result
+            (self.new ≡ with_taken (sealed_versions (option_map (λ s. s.now) sealed.entry))
+            cuts.items levels.now
+            (given_job (is_some sealed.entry) asked levels.now self.old.slots) self.old) }
+        ensures exhausted { (result ≡ Err Exhausted)
+            ↔ ((is_some (given_job (is_some sealed.entry) asked levels.now self.old.slots) ≡ true)
+            × (2 ^ 63 < self.old.next)) }
         ensures refusals { IfErr result (λ refusal. (refusal ≡ Exhausted) ⊎ (refusal ≡ NoMemory)) }
         ensures unchanged { OnErr result (self.new ≡ self.old) }
     {

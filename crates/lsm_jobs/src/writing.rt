@@ -29,8 +29,10 @@ pub(crate) fn write_block<D: Device>(
         (HasSomeOf (disk (D.medium device.old)) (run_at sector (in_sectors 8 block.now)))
         (D.medium device.old).history (D.medium device.new).history }
     ensures pends { IsTrue (D.medium device.old).lasting.tells → OnOk result
-        (disk (D.medium device.new) ≡ grown (run_at sector (in_sectors 8 block.now)) (disk (D.medium device.old))) }
-    ensures faults { (D.medium device.new).calls.faults ≡ faults_after (is_ok result) (D.medium device.old).calls.faults }
+        (disk (D.medium device.new)
+        ≡ grown (run_at sector (in_sectors 8 block.now)) (disk (D.medium device.old))) }
+    ensures faults { (D.medium device.new).calls.faults
+        ≡ faults_after (is_ok result) (D.medium device.old).calls.faults }
     ensures stops { OnErr result ((D.medium device.new).calls.last_faulted ≡ true) }
     ensures calls { AtMost 0 8 0 (D.medium device.old).calls (D.medium device.new).calls }
     ensures same_size { (D.medium device.new).size ≡ (D.medium device.old).size }
@@ -62,12 +64,16 @@ impl<A: Allocator> Slots<A> {
     /// left it makes no device call.
     pub fn write<D: Device>(&mut self, job: u64, device: &mut D, area: u32) -> Result<u32, Refusal>
         // The extents of the outputs lie in the device.
-        requires { AllByRecursion (EndsWithin (D.medium device.old).size area) (outputs_of (slot_of job self.old.slots)) }
+        requires { AllByRecursion (EndsWithin (D.medium device.old).size area)
+            (outputs_of (slot_of job self.old.slots)) }
         ensures left { IfOk result (λ left. JobWritesOn job left self.old self.new) }
-        ensures written { WritesBlocks area (next_of (slot_of job self.old.slots)) (faultless result) (D.medium device.old) (D.medium device.new) }
-        ensures calls { AtMost 0 (8 * min 8 (to_write (slot_of job self.old.slots))) 0 (D.medium device.old).calls (D.medium device.new).calls }
+        ensures written { WritesBlocks area (next_of (slot_of job self.old.slots))
+            (faultless result) (D.medium device.old) (D.medium device.new) }
+        ensures calls { AtMost 0 (8 * min 8 (to_write (slot_of job self.old.slots))) 0
+            (D.medium device.old).calls (D.medium device.new).calls }
         // Where no block is left the device isn't touched.
-        ensures untouched { to_write (slot_of job self.old.slots) ≡ 0 → D.medium device.new ≡ D.medium device.old }
+        ensures untouched { to_write (slot_of job self.old.slots) ≡ 0
+            → D.medium device.new ≡ D.medium device.old }
         ensures refused { IfErr result (RefusesWrite (slot_of job self.old.slots)) }
         ensures unchanged { OnErr result (self.new ≡ self.old) }
     {

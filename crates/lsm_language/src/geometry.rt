@@ -20,7 +20,10 @@ pub struct Geometry {
 impl Geometry {
     /// Refuses sizes outside the limits, and with them all that the types of the calls can't hold.
     pub fn new(sectors: u64, log_sectors: u64) -> Result<Geometry, Refusal>
-        ensures { MatchResult result (λ g. IsTrue (is_geometry sectors log_sectors) × (g.sectors ≡ sectors) × (g.log_sectors ≡ log_sectors)) (λ e. (is_geometry sectors log_sectors ≡ false) × (e ≡ BadGeometry)) }
+        ensures { MatchResult result
+            (λ g. IsTrue (is_geometry sectors log_sectors) × (g.sectors ≡ sectors)
+            × (g.log_sectors ≡ log_sectors))
+            (λ e. (is_geometry sectors log_sectors ≡ false) × (e ≡ BadGeometry)) }
     {
         let (least, most) = (LEAST_SECTORS as u64, MOST_SECTORS as u64);
         let (least_log, most_log) = (LEAST_LOG_SECTORS as u64, MOST_LOG_SECTORS as u64);

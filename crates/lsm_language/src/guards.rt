@@ -22,7 +22,8 @@ pub fn read_guard(alloc: Global, word: &str) -> Result<Keyed, Unread>
 /// The guards, in their order. Fails as the first that can't be formed.
 pub fn guards_of(alloc: Global, wanted: &[Keyed]) -> Result<Vec<Guard>, Refusal>
     ensures { MatchResult result
-        (λ guards. (guards_refusal (map condition_of wanted.now) ≡ None) × (guards.items ≡ map condition_of wanted.now))
+        (λ guards. (guards_refusal (map condition_of wanted.now) ≡ None)
+        × (guards.items ≡ map condition_of wanted.now))
         (λ e. (guards_refusal (map condition_of wanted.now) ≡ Some e) ⊎ (e ≡ NoMemory)) }
 {
     let mut guards = Vec::new(alloc);
@@ -34,7 +35,8 @@ pub fn guards_of(alloc: Global, wanted: &[Keyed]) -> Result<Vec<Guard>, Refusal>
 
 /// The guard that asks for a key's value, or for no value where the word gives none.
 pub fn guard(alloc: Global, wanted: &Keyed) -> Result<Guard, Refusal>
-    ensures { Answers (guard_refusal (condition_of wanted.now)) result (λ g. g ≡ condition_of wanted.now) }
+    ensures { Answers (guard_refusal (condition_of wanted.now)) result
+        (λ g. g ≡ condition_of wanted.now) }
 {
     match &wanted.value {
         Some(value) => Guard::holds(alloc, &wanted.key, value),

@@ -29,9 +29,13 @@ pub fn script_text<I: Read>(
     asked: &Asked<'_>,
     input: &mut I,
 ) -> Result<Vec<u8>, Fault>
-    ensures whole { IfOk result (λ text. IsTrue (wants_script asked.now) → IfSome (I.remaining input.old) (λ all. text.items ≡ read_within 300001 all)) }
+    ensures whole { IfOk result
+        (λ text. IsTrue (wants_script asked.now)
+        → IfSome (I.remaining input.old) (λ all. text.items ≡ read_within 300001 all)) }
     ensures untouched { wants_script asked.now ≡ false → input.new ≡ input.old }
-    ensures fails { IfErr result (λ e. (reason_of e ≡ refusal NoMemory) ⊎ ((reason_of e ≡ unread) × IsTrue (wants_script asked.now))) }
+    ensures fails { IfErr result
+        (λ e. (reason_of e ≡ refusal NoMemory)
+        ⊎ ((reason_of e ≡ unread) × IsTrue (wants_script asked.now))) }
 {
     let mut text = Vec::new(alloc);
     if !wants_script(asked) {
@@ -44,7 +48,8 @@ pub fn script_text<I: Read>(
 
 /// A reader that takes in 64 KiB at a time.
 pub fn buffered<I: Read>(alloc: Global, input: &mut I) -> Result<BufReader<&mut I>, Refusal>
-    ensures lines { IfOk result (λ lines. reader_remaining (λ input. I.remaining input.now) lines ≡ I.remaining input.old) }
+    ensures lines { IfOk result
+        (λ lines. reader_remaining (λ input. I.remaining input.now) lines ≡ I.remaining input.old) }
     ensures refused { IfErr result (λ e. e ≡ NoMemory) }
 {
     match BufReader::with_capacity(alloc, 65_536, input) {
@@ -56,7 +61,8 @@ pub fn buffered<I: Read>(alloc: Global, input: &mut I) -> Result<BufReader<&mut 
 // Reads an input to its end, or to where a line is too long.
 fn read_text<I: BufRead>(input: &mut I, text: &mut Vec<u8>) -> Result<(), Fault>
     requires { text.old.items ≡ [] }
-    ensures whole { OnOk result (IfSome (I.remaining input.old) (λ all. text.new.items ≡ read_within 300001 all)) }
+    ensures whole { OnOk result
+        (IfSome (I.remaining input.old) (λ all. text.new.items ≡ read_within 300001 all)) }
     ensures fails { IfErr result (λ e. (reason_of e ≡ refusal NoMemory) ⊎ (reason_of e ≡ unread)) }
 {
     let mut room = MOST_READ;
@@ -75,7 +81,9 @@ fn take_text<I: BufRead>(
     room: usize,
     text: &mut Vec<u8>,
 ) -> Result<Option<usize>, Fault>
-    ensures takes { IfOk result (λ left. TakesText (I.remaining input.old) room text.old.items left text.new.items (I.remaining input.new)) }
+    ensures takes { IfOk result
+        (λ left. TakesText (I.remaining input.old) room text.old.items left text.new.items
+        (I.remaining input.new)) }
     ensures fails { IfErr result (λ e. (reason_of e ≡ refusal NoMemory) ⊎ (reason_of e ≡ unread)) }
 {
     let read = match input.fill_buf() {

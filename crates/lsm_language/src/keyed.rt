@@ -16,7 +16,9 @@ pub struct Keyed {
 
 /// Reads what follows the mark of a word: `KEY=VALUE` after one mark, else `KEY` after another.
 pub fn read_keyed(alloc: Global, pair: Option<&str>, key: Option<&str>) -> Result<Keyed, Unread>
-    ensures { Reads keyed_of (keyed_said (option_map (λ word. word.now) pair.entry) (option_map (λ word. word.now) key.entry)) result }
+    ensures { Reads keyed_of
+        (keyed_said (option_map (λ word. word.now) pair.entry)
+        (option_map (λ word. word.now) key.entry)) result }
 {
     if let Some(pair) = pair {
         let Some((key, value)) = pair_in(pair) else {

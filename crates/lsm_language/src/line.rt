@@ -85,7 +85,9 @@ fn scan_at(
     to: &str,
     limit: &str,
 ) -> Result<Line, Unread>
-    ensures { Reads means (option_and_then (λ at. scan_said name.now at from.now to.now limit.now) (at_said at.now)) result }
+    ensures { Reads means
+        (option_and_then (λ at. scan_said name.now at from.now to.now limit.now) (at_said at.now))
+        result }
 {
     read_scan(alloc, name, snapshot(at)?, from, to, limit)
 }

@@ -19,7 +19,8 @@ impl Load {
     /// Refuses numbers outside the limits, and with them all whose product or sum no type holds.
     pub fn new(clients: u64, commits: u64, workers: u64) -> Result<Load, Refusal>
         ensures { MatchResult result
-            (λ l. IsTrue (is_load clients commits workers) × (l.clients ≡ clients) × (l.commits ≡ commits) × (l.workers ≡ workers))
+            (λ l. IsTrue (is_load clients commits workers) × (l.clients ≡ clients)
+            × (l.commits ≡ commits) × (l.workers ≡ workers))
             (λ e. (is_load clients commits workers ≡ false) × (e ≡ BadLimit)) }
     {
         if !are_within(clients, commits, workers) {

@@ -13,7 +13,8 @@ use std::alloc::Global;
 
 /// Reads the words of the operations, all of them.
 pub fn read_changes(alloc: Global, words: &[&str]) -> Result<Vec<Keyed>, Unread>
-    ensures { Reads (λ changes. map operation_of changes.items) (changes_said (map (λ word. word.now) words.now)) result }
+    ensures { Reads (λ changes. map operation_of changes.items)
+        (changes_said (map (λ word. word.now) words.now)) result }
 {
     let mut changes = Vec::new(alloc);
     for word in words {
@@ -56,7 +57,8 @@ pub fn batch_of(alloc: Global, first: &Keyed, rest: &[Keyed]) -> Result<Batch, R
 }
 
 pub(crate) fn operation(alloc: Global, change: &Keyed) -> Result<Op, Refusal>
-    ensures { Answers (first_refusal (operation_of change.now)) result (λ o. o ≡ operation_of change.now) }
+    ensures { Answers (first_refusal (operation_of change.now)) result
+        (λ o. o ≡ operation_of change.now) }
 {
     match &change.value {
         Some(value) => Op::put(alloc, &change.key, value),

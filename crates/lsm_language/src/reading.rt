@@ -29,7 +29,9 @@ pub enum Taken {
 /// than the most is kept, by which the caller sees it too. An input of which 2^64 - 1 looks don't end a line can't be read.
 pub fn next_line<I: BufRead>(input: &mut I, most: usize, line: &mut Vec<u8>) -> Result<bool, Fault>
     requires { most < 18446744073709551615 }
-    ensures line { IfOk result (λ found. ReadsLine most (I.remaining input.old) found line.new.items (I.remaining input.new)) }
+    ensures line { IfOk result
+        (λ found. ReadsLine most (I.remaining input.old) found line.new.items
+        (I.remaining input.new)) }
     ensures fails { IfErr result (λ e. (reason_of e ≡ refusal NoMemory) ⊎ (reason_of e ≡ unread)) }
 {
     line.clear();
@@ -57,7 +59,9 @@ fn is_line(line: &[u8]) -> bool
 fn take_piece<I: BufRead>(input: &mut I, most: usize, line: &mut Vec<u8>) -> Result<Taken, Fault>
     requires few { length line.old.items ≤ most }
     requires most { most < 18446744073709551615 }
-    ensures takes { IfOk result (λ taken. Takes most (I.remaining input.old) line.old.items taken line.new.items (I.remaining input.new)) }
+    ensures takes { IfOk result
+        (λ taken. Takes most (I.remaining input.old) line.old.items taken line.new.items
+        (I.remaining input.new)) }
     ensures fails { IfErr result (λ e. (reason_of e ≡ refusal NoMemory) ⊎ (reason_of e ≡ unread)) }
 {
     let read = match input.fill_buf() {

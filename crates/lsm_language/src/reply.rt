@@ -22,7 +22,8 @@ pub fn push_reply(
     counted: Counted,
     reply: &Reply,
 ) -> Result<(), Refusal>
-    ensures text { OnOk result (string_bytes text.new ≡ string_bytes text.old ++ told_line counted (told_of reply.now)) }
+    ensures text { OnOk result
+        (string_bytes text.new ≡ string_bytes text.old ++ told_line counted (told_of reply.now)) }
     ensures refused { IfErr result (λ e. e ≡ NoMemory) }
 {
     match reply {
@@ -46,7 +47,9 @@ pub fn push_reply(
 
 // A job that was taken, if there was one: a flush, or by the level above that of its outputs.
 fn push_job(text: &mut String, job: Option<TakenJob>) -> Result<(), Refusal>
-    ensures text { OnOk result (string_bytes text.new ≡ string_bytes text.old ++ job_line (option_map (λ j. (j.number, j.level)) job)) }
+    ensures text { OnOk result
+        (string_bytes text.new
+        ≡ string_bytes text.old ++ job_line (option_map (λ j. (j.number, j.level)) job)) }
     ensures refused { IfErr result (λ e. e ≡ NoMemory) }
 {
     match job {
@@ -69,7 +72,8 @@ fn push_job(text: &mut String, job: Option<TakenJob>) -> Result<(), Refusal>
 
 /// Adds the line of a refusal.
 pub fn push_refusal(text: &mut String, refusal: Refusal) -> Result<(), Refusal>
-    ensures text { OnOk result (string_bytes text.new ≡ string_bytes text.old ++ refusal_line refusal) }
+    ensures text { OnOk result
+        (string_bytes text.new ≡ string_bytes text.old ++ refusal_line refusal) }
     ensures refused { IfErr result (λ e. e ≡ NoMemory) }
 {
     let refused = refusal_text(&refusal);
@@ -79,7 +83,8 @@ pub fn push_refusal(text: &mut String, refusal: Refusal) -> Result<(), Refusal>
 
 // The rows of a page as one line.
 fn push_rows(alloc: Global, text: &mut String, page: &Page) -> Result<(), Refusal>
-    ensures text { OnOk result (string_bytes text.new ≡ string_bytes text.old ++ rows_line page.now) }
+    ensures text { OnOk result
+        (string_bytes text.new ≡ string_bytes text.old ++ rows_line page.now) }
     ensures refused { IfErr result (λ e. e ≡ NoMemory) }
 {
     text.push_str("rows ")?;
@@ -111,7 +116,8 @@ pub fn stat_text(alloc: Global, stat: &Stat) -> Result<String, Refusal>
 
 /// Appends a number after the words for what it counts.
 pub fn push_number(text: &mut String, words: &str, number: u64) -> Result<(), Refusal>
-    ensures text { OnOk result (string_bytes text.new ≡ string_bytes text.old ++ words.now ++ decimal number) }
+    ensures text { OnOk result
+        (string_bytes text.new ≡ string_bytes text.old ++ words.now ++ decimal number) }
     ensures refused { IfErr result (λ e. e ≡ NoMemory) }
 {
     write!(text, "{words}{number}")?;
@@ -127,7 +133,8 @@ fn digit_of(flag: bool) -> u64
 
 /// Adds a line with the key of the first pair that a page leaves out, or that it leaves none.
 pub fn push_next(alloc: Global, text: &mut String, page: &Page) -> Result<(), Refusal>
-    ensures text { OnOk result (string_bytes text.new ≡ string_bytes text.old ++ next_line page.now) }
+    ensures text { OnOk result
+        (string_bytes text.new ≡ string_bytes text.old ++ next_line page.now) }
     ensures refused { IfErr result (λ e. e ≡ NoMemory) }
 {
     match page.next_key() {

@@ -114,8 +114,10 @@ impl<'a> Request<'a> {
 
     /// Reads numbers and bytes from the left, then the text of the script, then tests the limits, then forms guards and batch.
     pub fn read(alloc: Global, asked: Asked<'a>, text: &[u8]) -> Result<Request<'a>, Fault>
-        ensures { MatchResult result (λ r. (reason_for asked.entry text.now ≡ None) × Says asked.entry text.now r)
-            (λ e. (reason_for asked.entry text.now ≡ Some (reason_of e)) ⊎ (reason_of e ≡ refusal NoMemory)) }
+        ensures { MatchResult result
+            (λ r. (reason_for asked.entry text.now ≡ None) × Says asked.entry text.now r)
+            (λ e. (reason_for asked.entry text.now ≡ Some (reason_of e))
+            ⊎ (reason_of e ≡ refusal NoMemory)) }
     {
         match asked {
             Asked::Format { file, sectors, log } => {
@@ -189,9 +191,11 @@ impl<'a> Request<'a> {
 // The sizes of a store that two words say.
 fn geometry_in(alloc: Global, sectors: &str, log: &str) -> Result<Geometry, Fault>
     ensures { let reason = or_else (said_reason (number_said sectors.now))
-        (or_else (said_reason (number_said log.now)) (limits_reason (number_in sectors.now) (number_in log.now))) in
+        (or_else (said_reason (number_said log.now))
+        (limits_reason (number_in sectors.now) (number_in log.now))) in
         MatchResult result
-        (λ g. (reason ≡ None) × (number_said sectors.now ≡ Some g.sectors) × (number_said log.now ≡ Some g.log_sectors))
+        (λ g. (reason ≡ None) × (number_said sectors.now ≡ Some g.sectors)
+        × (number_said log.now ≡ Some g.log_sectors))
         (λ e. (reason ≡ Some (reason_of e)) ⊎ (reason_of e ≡ refusal NoMemory)) }
 {
     let sectors = number(alloc, sectors, "SECTORS")?;
@@ -201,10 +205,13 @@ fn geometry_in(alloc: Global, sectors: &str, log: &str) -> Result<Geometry, Faul
 
 // The batch that puts the value of one word under the key of another.
 fn put_in(alloc: Global, key: &str, value: &str) -> Result<Batch, Fault>
-    ensures { let reason = or_else (said_reason (bytes_said key.now)) (or_else (said_reason (bytes_said value.now))
-        (option_map refusal (or_then (key_refusal (bytes_in key.now)) (value_refusal (bytes_in value.now))))) in
+    ensures { let reason = or_else (said_reason (bytes_said key.now))
+        (or_else (said_reason (bytes_said value.now))
+        (option_map refusal
+        (or_then (key_refusal (bytes_in key.now)) (value_refusal (bytes_in value.now))))) in
         MatchResult result
-        (λ b. (reason ≡ None) × (b ≡ record { key = bytes_in key.now; value = Some (bytes_in value.now) } ∷ []))
+        (λ b. (reason ≡ None)
+        × (b ≡ record { key = bytes_in key.now; value = Some (bytes_in value.now) } ∷ []))
         (λ e. (reason ≡ Some (reason_of e)) ⊎ (reason_of e ≡ refusal NoMemory)) }
 {
     let key = bytes(alloc, key, "KEY")?;
@@ -215,10 +222,14 @@ fn put_in(alloc: Global, key: &str, value: &str) -> Result<Batch, Fault>
 
 // The guard that the key of one word has the value of another, or none, and the batch that puts the value of a third under it.
 fn put_if_in(alloc: Global, key: &str, old: &str, new: &str) -> Result<(Vec<Guard>, Batch), Fault>
-    ensures { let reason = or_else (said_reason (bytes_said key.now)) (or_else (said_reason (old_said old.now))
-        (or_else (said_reason (bytes_said new.now)) (option_map refusal (put_if_refusal (bytes_in key.now) (old_in old.now) (bytes_in new.now))))) in
+    ensures { let reason = or_else (said_reason (bytes_said key.now))
+        (or_else (said_reason (old_said old.now))
+        (or_else (said_reason (bytes_said new.now))
+        (option_map refusal
+        (put_if_refusal (bytes_in key.now) (old_in old.now) (bytes_in new.now))))) in
         MatchResult result
-        (λ r. (reason ≡ None) × (r.0.items ≡ record { key = bytes_in key.now; value = old_in old.now } ∷ [])
+        (λ r. (reason ≡ None)
+        × (r.0.items ≡ record { key = bytes_in key.now; value = old_in old.now } ∷ [])
         × (r.1 ≡ record { key = bytes_in key.now; value = Some (bytes_in new.now) } ∷ []))
         (λ e. (reason ≡ Some (reason_of e)) ⊎ (reason_of e ≡ refusal NoMemory)) }
 {
@@ -229,9 +240,11 @@ fn put_if_in(alloc: Global, key: &str, old: &str, new: &str) -> Result<(Vec<Guar
 }
 
 fn put_if(alloc: Global, wanted: &Keyed, new: &[u8]) -> Result<(Vec<Guard>, Batch), Refusal>
-    ensures { let reason = put_if_refusal wanted.now.key.items (condition_of wanted.now).value new.now in
+    ensures { let reason = put_if_refusal wanted.now.key.items (condition_of wanted.now).value
+        new.now in
         MatchResult result
-        (λ r. (reason ≡ None) × (r.0.items ≡ condition_of wanted.now ∷ []) × (r.1 ≡ record { key = wanted.now.key.items; value = Some new.now } ∷ []))
+        (λ r. (reason ≡ None) × (r.0.items ≡ condition_of wanted.now ∷ [])
+        × (r.1 ≡ record { key = wanted.now.key.items; value = Some new.now } ∷ []))
         (λ e. (reason ≡ Some e) ⊎ (e ≡ NoMemory)) }
 {
     let mut guards = Vec::new(alloc);
@@ -242,7 +255,8 @@ fn put_if(alloc: Global, wanted: &Keyed, new: &[u8]) -> Result<(Vec<Guard>, Batc
 
 // The batch that deletes the key of a word.
 fn delete_in(alloc: Global, key: &str) -> Result<Batch, Fault>
-    ensures { let reason = or_else (said_reason (bytes_said key.now)) (option_map refusal (key_refusal (bytes_in key.now))) in
+    ensures { let reason = or_else (said_reason (bytes_said key.now))
+        (option_map refusal (key_refusal (bytes_in key.now))) in
         MatchResult result
         (λ b. (reason ≡ None) × (b ≡ record { key = bytes_in key.now; value = None } ∷ []))
         (λ e. (reason ≡ Some (reason_of e)) ⊎ (reason_of e ≡ refusal NoMemory)) }
@@ -254,7 +268,8 @@ fn delete_in(alloc: Global, key: &str) -> Result<Batch, Fault>
 
 // The rows of a page that a word allows: 1 to 64.
 fn limit_in(alloc: Global, limit: &str) -> Result<u64, Fault>
-    ensures { let reason = or_else (said_reason (number_said limit.now)) (page_reason (number_in limit.now)) in
+    ensures { let reason = or_else (said_reason (number_said limit.now))
+        (page_reason (number_in limit.now)) in
         MatchResult result (λ n. (reason ≡ None) × (number_said limit.now ≡ Some n))
         (λ e. (reason ≡ Some (reason_of e)) ⊎ (reason_of e ≡ refusal NoMemory)) }
 {
@@ -273,10 +288,13 @@ fn scripted(
     log: &str,
     text: &[u8],
 ) -> Result<(Geometry, Vec<Line>), Fault>
-    ensures { let reason = or_else (said_reason (number_said sectors.now)) (or_else (said_reason (number_said log.now))
-        (or_else (said_reason (script_said kind text.now)) (limits_reason (number_in sectors.now) (number_in log.now)))) in
+    ensures { let reason = or_else (said_reason (number_said sectors.now))
+        (or_else (said_reason (number_said log.now))
+        (or_else (said_reason (script_said kind text.now))
+        (limits_reason (number_in sectors.now) (number_in log.now)))) in
         MatchResult result
-        (λ r. (reason ≡ None) × (number_said sectors.now ≡ Some r.0.sectors) × (number_said log.now ≡ Some r.0.log_sectors)
+        (λ r. (reason ≡ None) × (number_said sectors.now ≡ Some r.0.sectors)
+        × (number_said log.now ≡ Some r.0.log_sectors)
         × (script_said kind text.now ≡ Some (map means r.1.items)))
         (λ e. (reason ≡ Some (reason_of e)) ⊎ (reason_of e ≡ refusal NoMemory)) }
 {
@@ -289,10 +307,14 @@ fn scripted(
 
 // What three words let clients and workers do.
 fn load_in(alloc: Global, clients: &str, commits: &str, workers: &str) -> Result<Load, Fault>
-    ensures { let reason = or_else (said_reason (number_said clients.now)) (or_else (said_reason (number_said commits.now))
-        (or_else (said_reason (number_said workers.now)) (load_reason (number_in clients.now) (number_in commits.now) (number_in workers.now)))) in
+    ensures { let reason = or_else (said_reason (number_said clients.now))
+        (or_else (said_reason (number_said commits.now))
+        (or_else (said_reason (number_said workers.now))
+        (load_reason (number_in clients.now) (number_in commits.now)
+        (number_in workers.now)))) in
         MatchResult result
-        (λ l. (reason ≡ None) × (number_said clients.now ≡ Some l.clients) × (number_said commits.now ≡ Some l.commits)
+        (λ l. (reason ≡ None) × (number_said clients.now ≡ Some l.clients)
+        × (number_said commits.now ≡ Some l.commits)
         × (number_said workers.now ≡ Some l.workers))
         (λ e. (reason ≡ Some (reason_of e)) ⊎ (reason_of e ≡ refusal NoMemory)) }
 {
@@ -304,10 +326,12 @@ fn load_in(alloc: Global, clients: &str, commits: &str, workers: &str) -> Result
 
 // How many clients count together, and how often each tries: as clients and commits of a storm without workers.
 fn tally_in(alloc: Global, clients: &str, tries: &str) -> Result<Load, Fault>
-    ensures { let reason = or_else (said_reason (number_said clients.now)) (or_else (said_reason (number_said tries.now))
+    ensures { let reason = or_else (said_reason (number_said clients.now))
+        (or_else (said_reason (number_said tries.now))
         (load_reason (number_in clients.now) (number_in tries.now) 0)) in
         MatchResult result
-        (λ l. (reason ≡ None) × (number_said clients.now ≡ Some l.clients) × (number_said tries.now ≡ Some l.commits) × (l.workers ≡ 0))
+        (λ l. (reason ≡ None) × (number_said clients.now ≡ Some l.clients)
+        × (number_said tries.now ≡ Some l.commits) × (l.workers ≡ 0))
         (λ e. (reason ≡ Some (reason_of e)) ⊎ (reason_of e ≡ refusal NoMemory)) }
 {
     let clients = number(alloc, clients, "CLIENTS")?;
@@ -318,7 +342,8 @@ fn tally_in(alloc: Global, clients: &str, tries: &str) -> Result<Load, Fault>
 // The number that the word at a place says.
 fn number(alloc: Global, word: &str, place: &'static str) -> Result<u64, Fault>
     ensures { MatchResult result (λ n. number_said word.now ≡ Some n)
-        (λ e. ((number_said word.now ≡ None) × (reason_of e ≡ mistake)) ⊎ (reason_of e ≡ refusal NoMemory)) }
+        (λ e. ((number_said word.now ≡ None) × (reason_of e ≡ mistake))
+        ⊎ (reason_of e ≡ refusal NoMemory)) }
 {
     match parse_number(word) {
         Some(number) => Ok(number),
@@ -332,7 +357,8 @@ fn number(alloc: Global, word: &str, place: &'static str) -> Result<u64, Fault>
 // The bytes that the word at a place says.
 fn bytes(alloc: Global, word: &str, place: &'static str) -> Result<Vec<u8>, Fault>
     ensures { MatchResult result (λ b. bytes_said word.now ≡ Some b.items)
-        (λ e. ((bytes_said word.now ≡ None) × (reason_of e ≡ mistake)) ⊎ (reason_of e ≡ refusal NoMemory)) }
+        (λ e. ((bytes_said word.now ≡ None) × (reason_of e ≡ mistake))
+        ⊎ (reason_of e ≡ refusal NoMemory)) }
 {
     match unword(alloc, word)? {
         Some(bytes) => Ok(bytes),
@@ -345,8 +371,10 @@ fn bytes(alloc: Global, word: &str, place: &'static str) -> Result<Vec<u8>, Faul
 
 // The value that a key is to have, as the word OLD says it: `absent` for none.
 fn old_value(alloc: Global, word: &str) -> Result<Option<Vec<u8>>, Fault>
-    ensures { MatchResult result (λ v. old_said word.now ≡ Some (option_map (λ bytes. bytes.items) v))
-        (λ e. ((old_said word.now ≡ None) × (reason_of e ≡ mistake)) ⊎ (reason_of e ≡ refusal NoMemory)) }
+    ensures { MatchResult result
+        (λ v. old_said word.now ≡ Some (option_map (λ bytes. bytes.items) v))
+        (λ e. ((old_said word.now ≡ None) × (reason_of e ≡ mistake))
+        ⊎ (reason_of e ≡ refusal NoMemory)) }
 {
     if word == "absent" {
         return Ok(None);
@@ -369,7 +397,8 @@ fn put_batch(alloc: Global, key: &[u8], value: &[u8]) -> Result<Batch, Refusal>
 }
 
 fn delete_batch(alloc: Global, key: &[u8]) -> Result<Batch, Refusal>
-    ensures { Answers (key_refusal key.now) result (λ b. b ≡ record { key = key.now; value = None } ∷ []) }
+    ensures { Answers (key_refusal key.now) result
+        (λ b. b ≡ record { key = key.now; value = None } ∷ []) }
 {
     let delete = Op::delete(alloc, key)?;
     Ok(Batch::new(alloc, delete)?)

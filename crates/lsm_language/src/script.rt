@@ -50,7 +50,8 @@ fn lines_of(alloc: Global, text: &[u8]) -> Result<Vec<&[u8]>, AllocError>
 
 // The parts of a text between newlines.
 fn parts_of(alloc: Global, text: &[u8]) -> Result<Vec<&[u8]>, AllocError>
-    ensures { IfOk result (λ parts. map (λ part. part.now) parts.items ≡ slice_split (λ b. b == 10) text.now) }
+    ensures { IfOk result (λ parts. map (λ part. part.now) parts.items
+        ≡ slice_split (λ b. b == 10) text.now) }
 {
     text.split(|byte| *byte == b'\n').collect(alloc)
 }

@@ -52,7 +52,8 @@ pub fn after(word: &str, letter: char) -> Option<&str>
 
 /// The two words around the first `=` of a word.
 pub fn pair_in(word: &str) -> Option<(&str, &str)>
-    ensures { MatchOption result (pair_in word.now ≡ None) (λ pair. pair_in word.now ≡ Some (pair.0.now, pair.1.now)) }
+    ensures { MatchOption result (pair_in word.now ≡ None)
+        (λ pair. pair_in word.now ≡ Some (pair.0.now, pair.1.now)) }
 {
     word.split_once('=')
 }

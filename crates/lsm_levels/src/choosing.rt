@@ -68,7 +68,10 @@ fn is_free_merge<H: HeldJobs, A: Allocator>(
     upper: &[PlacedTable<A>],
     lower: &[PlacedTable<A>],
 ) -> bool
-    ensures { result ≡ (may_stand (H.jobs held.now) level upper.now && (list_all (is_free (H.jobs held.now)) upper.now && list_all (is_free (H.jobs held.now)) lower.now)) }
+    ensures { result
+        ≡ (may_stand (H.jobs held.now) level upper.now
+        && (list_all (is_free (H.jobs held.now)) upper.now
+        && list_all (is_free (H.jobs held.now)) lower.now)) }
 {
     may_stand(held, level, upper) && (are_free(held, upper) && are_free(held, lower))
 }
@@ -82,7 +85,8 @@ pub(crate) fn tables_job<'a, H: HeldJobs, A: Allocator>(
     below: &'a Run<A>,
     held: &H,
 ) -> Option<Pick<'a, A>>
-    ensures { option_map job_of result ≡ tables_job first last level tables.now below.now (H.jobs held.now) }
+    ensures { option_map job_of result
+        ≡ tables_job first last level tables.now below.now (H.jobs held.now) }
 {
     let upper = neighbours(tables, first, last);
     if upper.is_empty() {

@@ -144,7 +144,8 @@ impl<'a, A: Allocator> RunCursor<'a, A> {
 
     /// Passes what stands in the block before a key.
     fn pass_up_to(&mut self, from: &[u8])
-        ensures { self.new ≡ record { items = sought from.now self.old.items; blocks = self.old.blocks } }
+        ensures { self.new ≡ record
+            { items = sought from.now self.old.items; blocks = self.old.blocks } }
     {
         self.place = sought_place(self.bytes.as_array(), self.place, from);
         self.present = self.place.first_entry(self.bytes.as_array());
@@ -161,7 +162,8 @@ impl<'a, A: Allocator> RunCursor<'a, A> {
         A: Clone,
         requires { EndsWithin (D.medium device.old).size block }
         ensures { Loads block self.old.blocks self.new (refusal_of result)
-            (record { cache = cache.old; medium = D.medium device.old }) (record { cache = cache.new; medium = D.medium device.new }) }
+            (record { cache = cache.old; medium = D.medium device.old })
+            (record { cache = cache.new; medium = D.medium device.new }) }
     {
         let given = cache.ask(block.name, block.sector, device, &mut self.bytes);
         self.place = EntryPlace::first(self.bytes.as_array());
@@ -177,7 +179,8 @@ impl<'a, A: Allocator> RunCursor<'a, A> {
         requires passed { has_item self.old.items ≡ false }
         requires within { AllByRecursion (EndsWithin (D.medium device.old).size) self.old.blocks }
         ensures { EntersNext self.old.blocks self.new (refusal_of result)
-            (record { cache = cache.old; medium = D.medium device.old }) (record { cache = cache.new; medium = D.medium device.new }) }
+            (record { cache = cache.old; medium = D.medium device.old })
+            (record { cache = cache.new; medium = D.medium device.new }) }
     {
         let Some(block) = self.blocks.next() else {
             return Ok(());
@@ -190,9 +193,12 @@ impl<'a, A: Allocator> RunCursor<'a, A> {
     where
         A: Clone,
         requires { AllByRecursion (EndsWithin (D.medium device.old).size) self.old.blocks }
-        ensures goes_on { GoesOn (drop 1 self.old.items) self.old.blocks self.new (refusal_of result)
-            (record { cache = cache.old; medium = D.medium device.old }) (record { cache = cache.new; medium = D.medium device.new }) }
-        ensures fair { IfErr result (λ refusal. (refusal ≡ BadTable) ⊎ (has_item (drop 1 self.old.items) ≡ false)) }
+        ensures goes_on { GoesOn (drop 1 self.old.items) self.old.blocks self.new
+            (refusal_of result)
+            (record { cache = cache.old; medium = D.medium device.old })
+            (record { cache = cache.new; medium = D.medium device.new }) }
+        ensures fair { IfErr result
+            (λ refusal. (refusal ≡ BadTable) ⊎ (has_item (drop 1 self.old.items) ≡ false)) }
         ensures few { OnOk result (length self.new.items ≤ 4097) }
     {
         self.pass();
@@ -216,12 +222,15 @@ impl<'a, A: Allocator> RunCursor<'a, A> {
     where
         A: Clone,
         requires { AllByRecursion (EndsWithin (D.medium device.old).size) self.old.blocks }
-        ensures goes_on { GoesOn (drop 1 self.old.items) self.old.blocks self.new (refusal_of result)
-            (record { cache = cache.old; medium = D.medium device.old }) (record { cache = cache.new; medium = D.medium device.new }) }
+        ensures goes_on { GoesOn (drop 1 self.old.items) self.old.blocks self.new
+            (refusal_of result)
+            (record { cache = cache.old; medium = D.medium device.old })
+            (record { cache = cache.new; medium = D.medium device.new }) }
 
         // The device is only read, one block at most, and the blocks to come lie within it.
         ensures asks { AsksOnce self.old.blocks (refusal_of result)
-            (record { cache = cache.old; medium = D.medium device.old }) (record { cache = cache.new; medium = D.medium device.new }) }
+            (record { cache = cache.old; medium = D.medium device.old })
+            (record { cache = cache.new; medium = D.medium device.new }) }
         ensures within { AllByRecursion (EndsWithin (D.medium device.new).size) self.new.blocks }
 
         // A block has at most one entry for each byte, and one item more where the bytes after them are invalid.
@@ -243,7 +252,8 @@ impl<'a, A: Allocator> RunCursor<'a, A> {
         requires new { self.old.items ≡ [] }
         requires within { AllByRecursion (EndsWithin (D.medium device.old).size) self.old.blocks }
         ensures { Seeks from.now self.old.blocks self.new (refusal_of result)
-            (record { cache = cache.old; medium = D.medium device.old }) (record { cache = cache.new; medium = D.medium device.new }) }
+            (record { cache = cache.old; medium = D.medium device.old })
+            (record { cache = cache.new; medium = D.medium device.new }) }
     {
         let Some(block) = self.blocks.next() else {
             return Ok(());
@@ -266,7 +276,8 @@ impl<'a, A: Allocator> RunCursor<'a, A> {
         A: Clone,
         requires { AllByRecursion (LiesWithin (D.medium device.old).size area) run.now }
         ensures { SeeksTo from.now (blocks_from_key area from.now run.now) result
-            (record { cache = cache.old; medium = D.medium device.old }) (record { cache = cache.new; medium = D.medium device.new }) }
+            (record { cache = cache.old; medium = D.medium device.old })
+            (record { cache = cache.new; medium = D.medium device.new }) }
     {
         let blocks = Blocks::from_key(run.tables(), area, from);
         let mut cursor = RunCursor::before(alloc, blocks)?;
@@ -291,12 +302,15 @@ impl<'a, A: Allocator> RunCursor<'a, A> {
         A: Clone,
         requires { AllByRecursion (LiesWithin (D.medium device.old).size area) run.now }
         ensures sought { SeeksTo from.now (blocks_from_key area from.now run.now) result
-            (record { cache = cache.old; medium = D.medium device.old }) (record { cache = cache.new; medium = D.medium device.new }) }
+            (record { cache = cache.old; medium = D.medium device.old })
+            (record { cache = cache.new; medium = D.medium device.new }) }
 
         // The device is only read, one block at most, and the blocks to come lie within it.
         ensures asks { AsksOnce (blocks_from_key area from.now run.now) (refusal_of result)
-            (record { cache = cache.old; medium = D.medium device.old }) (record { cache = cache.new; medium = D.medium device.new }) }
-        ensures within { IfOk result (λ c. AllByRecursion (EndsWithin (D.medium device.new).size) c.blocks) }
+            (record { cache = cache.old; medium = D.medium device.old })
+            (record { cache = cache.new; medium = D.medium device.new }) }
+        ensures within { IfOk result
+            (λ c. AllByRecursion (EndsWithin (D.medium device.new).size) c.blocks) }
     {
         let cursor = RunCursor::found(run, alloc, area, from, cache, device)?;
         Ok(cursor)

@@ -54,7 +54,8 @@ pub(crate) fn hull_onto<'a, A: Allocator>(
     tables: &'a [PlacedTable<A>],
     rest: Option<KeyRange<'a>>,
 ) -> Option<KeyRange<'a>>
-    ensures { option_map range_shown result ≡ hull_onto tables.now (option_map range_shown rest.entry) }
+    ensures { option_map range_shown result
+        ≡ hull_onto tables.now (option_map range_shown rest.entry) }
 {
     let mut hull = rest;
     for table in tables.iter().rev() {
@@ -89,7 +90,8 @@ fn run_hull_onto<'a, A: Allocator>(
     rest: Option<KeyRange<'a>>,
 ) -> Option<KeyRange<'a>>
     requires { IsRun run.now }
-    ensures { option_map range_shown result ≡ hull_onto run.now (option_map range_shown rest.entry) }
+    ensures { option_map range_shown result
+        ≡ hull_onto run.now (option_map range_shown rest.entry) }
 {
     let Some((first, last)) = ends(run) else {
         return rest;
@@ -108,7 +110,8 @@ pub(crate) fn hull_of_runs<'a, A: Allocator>(
     runs: &'a [Run<A>],
     rest: Option<KeyRange<'a>>,
 ) -> Option<KeyRange<'a>>
-    ensures { option_map range_shown result ≡ hull_onto (all_tables runs.now) (option_map range_shown rest.entry) }
+    ensures { option_map range_shown result
+        ≡ hull_onto (all_tables runs.now) (option_map range_shown rest.entry) }
 {
     let mut hull = rest;
     for run in runs.iter().rev() {

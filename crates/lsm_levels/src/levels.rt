@@ -97,7 +97,8 @@ impl<A: Allocator> Levels<A> {
     pub fn set_level(&mut self, level: usize, run: Run<A>)
         requires low { 1 ≤ level }
         requires high { level ≤ 4 }
-        ensures { self.new ≡ record { runs = self.old.runs; deeper = slice_set self.old.deeper (level - 1) run } }
+        ensures { self.new ≡ record
+            { runs = self.old.runs; deeper = slice_set self.old.deeper (level - 1) run } }
     {
         let _tables = run.tables();
         self.deeper[level - 1] = run;
@@ -125,10 +126,14 @@ impl<A: Allocator> Levels<A> {
         outputs: &mut Vec<PlacedTable<A>, A>,
     ) -> Result<(), AllocError>
         requires level { level ≤ 3 }
-        requires range { IfSome (reach upper.now lower.now) (λ range. at_most range.first range.last ≡ true) }
+        requires range { IfSome (reach upper.now lower.now)
+            (λ range. at_most range.first range.last ≡ true) }
         requires some { is_some (reach upper.now lower.now) ≡ true }
-        requires fits { IfSome (reach upper.now lower.now) (λ range. IsRun (put_at range outputs.old.items (level_of self.old (suc level)))) }
-        ensures replaced { self.new ≡ (if is_ok result then merged level upper.now lower.now outputs.old.items self.old else self.old) }
+        requires fits { IfSome (reach upper.now lower.now)
+            (λ range. IsRun (put_at range outputs.old.items (level_of self.old (suc level)))) }
+        ensures replaced { self.new
+            ≡ (if is_ok result then merged level upper.now lower.now outputs.old.items self.old
+            else self.old) }
         ensures moved { outputs.new.items ≡ (if is_ok result then [] else outputs.old.items) }
     {
         let Some(range) = reach(upper, lower) else {
@@ -158,8 +163,11 @@ impl<A: Allocator> Levels<A> {
         outputs: &mut Vec<PlacedTable<A>, A>,
     ) -> Result<(), AllocError>
         // Levels have the inputs of the merge, and its outputs lie within them.
-        requires merge { (bottom : Bool) × HasItsTables self.old bottom level upper.now lower.now × AreOutputs (Merge level upper.now lower.now) outputs.old.items }
-        ensures replaced { self.new ≡ (if is_ok result then merged level upper.now lower.now outputs.old.items self.old else self.old) }
+        requires merge { (bottom : Bool) × HasItsTables self.old bottom level upper.now lower.now
+            × AreOutputs (Merge level upper.now lower.now) outputs.old.items }
+        ensures replaced { self.new
+            ≡ (if is_ok result then merged level upper.now lower.now outputs.old.items self.old
+            else self.old) }
         ensures moved { outputs.new.items ≡ (if is_ok result then [] else outputs.old.items) }
     {
         let _runs = self.runs();
@@ -169,7 +177,10 @@ impl<A: Allocator> Levels<A> {
 
     /// The job of a rule, of the least level from 1 to 3 that has one.
     fn rule_job<H: HeldJobs>(&self, rule: Rule, held: &H) -> Option<Pick<'_, A>>
-        ensures { option_map job_of result ≡ of_least_level (λ i. rule_job rule (level_of self.now i) (level_of self.now (suc i)) (H.jobs held.now) i) }
+        ensures { option_map job_of result
+            ≡ of_least_level
+            (λ i. rule_job rule (level_of self.now i) (level_of self.now (suc i))
+            (H.jobs held.now) i) }
     {
         let [level_1, level_2, level_3, level_4] = self.deeper() else {
             return None;
@@ -242,7 +253,8 @@ impl<A: Allocator> Levels<A> {
 
     /// The rewrite of the tables from one to another, of a level from 1 to 4.
     fn choose_rewrite<H: HeldJobs>(&self, first: u64, last: u64, held: &H) -> Option<Pick<'_, A>>
-        ensures { option_map job_of result ≡ chosen self.now (H.jobs held.now) (Rewrite first last) }
+        ensures { option_map job_of result
+            ≡ chosen self.now (H.jobs held.now) (Rewrite first last) }
     {
         let [level_1, level_2, level_3, level_4] = self.deeper() else {
             return None;
@@ -288,7 +300,8 @@ impl<A: Allocator> Levels<A> {
 
     /// Whether no table below the level of a merge's outputs meets the hull of its inputs.
     fn meets_none_below(&self, level: usize, inputs: Option<KeyRange<'_>>) -> bool
-        ensures { result ≡ meets_none (option_map range_shown inputs.entry) (below_output self.now level) }
+        ensures { result ≡ meets_none (option_map range_shown inputs.entry)
+            (below_output self.now level) }
     {
         let Some(range) = inputs else {
             return true;

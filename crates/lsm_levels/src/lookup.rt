@@ -29,8 +29,11 @@ fn find_in_run<D: Device, A: Allocator + Clone>(
     device: &mut D,
 ) -> Result<Option<EntrySpan>, Refusal>
     requires { AllByRecursion (LiesWithin (D.medium device.old).size query.now.area) run.now }
-    ensures { Says query.now.key.now query.now.at (asked_of_run query.now.area query.now.key.now query.now.at run.now) (spanned_in bytes.new result)
-        (record { cache = cache.old; medium = D.medium device.old }) (record { cache = cache.new; medium = D.medium device.new }) }
+    ensures { Says query.now.key.now query.now.at
+        (asked_of_run query.now.area query.now.key.now query.now.at run.now)
+        (spanned_in bytes.new result)
+        (record { cache = cache.old; medium = D.medium device.old })
+        (record { cache = cache.new; medium = D.medium device.new }) }
 {
     let Some(block) = asked_of_run(run, query) else {
         return Ok(None);
@@ -47,8 +50,10 @@ fn find_in_runs<D: Device, A: Allocator + Clone>(
     device: &mut D,
 ) -> Result<Option<EntrySpan>, Refusal>
     requires { AreWithin (D.medium device.old).size query.now.area runs.now }
-    ensures { LooksUp query.now.area query.now.key.now query.now.at runs.now (spanned_in bytes.new result)
-        (record { cache = cache.old; medium = D.medium device.old }) (record { cache = cache.new; medium = D.medium device.new }) }
+    ensures { LooksUp query.now.area query.now.key.now query.now.at runs.now
+        (spanned_in bytes.new result)
+        (record { cache = cache.old; medium = D.medium device.old })
+        (record { cache = cache.new; medium = D.medium device.new }) }
 {
     for run in runs {
         if let Some(span) = find_in_run(run, query, bytes, cache, device)? {
@@ -67,8 +72,10 @@ fn find_in_levels<D: Device, A: Allocator + Clone>(
     device: &mut D,
 ) -> Result<Option<EntrySpan>, Refusal>
     requires { AreWithin (D.medium device.old).size query.now.area (places levels.now) }
-    ensures { LooksUp query.now.area query.now.key.now query.now.at (places levels.now) (spanned_in bytes.new result)
-        (record { cache = cache.old; medium = D.medium device.old }) (record { cache = cache.new; medium = D.medium device.new }) }
+    ensures { LooksUp query.now.area query.now.key.now query.now.at (places levels.now)
+        (spanned_in bytes.new result)
+        (record { cache = cache.old; medium = D.medium device.old })
+        (record { cache = cache.new; medium = D.medium device.new }) }
 {
     if let Some(span) = find_in_runs(levels.runs(), query, bytes, cache, device)? {
         return Ok(Some(span));
@@ -78,7 +85,8 @@ fn find_in_levels<D: Device, A: Allocator + Clone>(
 
 // The value of a version where it lies, none where there is no version or it deletes its key.
 fn value_at(block: &[u8; 4_096], found: Option<EntrySpan>) -> Option<&[u8]>
-    ensures { option_map (λ v. v.now) result ≡ value_of (option_map (λ s. spanned s block.now) found) }
+    ensures { option_map (λ v. v.now) result
+        ≡ value_of (option_map (λ s. spanned s block.now) found) }
 {
     found?.entry(block).value
 }
@@ -92,8 +100,10 @@ pub(crate) fn copy_from_levels<D: Device, A: Allocator + Clone>(
     device: &mut D,
 ) -> Result<Option<Vec<u8, A>>, Refusal>
     requires { AreWithin (D.medium device.old).size query.now.area (places levels.now) }
-    ensures { CopiesOfRuns query.now.area query.now.key.now query.now.at (places levels.now) (answer_of result)
-        (record { cache = cache.old; medium = D.medium device.old }) (record { cache = cache.new; medium = D.medium device.new }) }
+    ensures { CopiesOfRuns query.now.area query.now.key.now query.now.at (places levels.now)
+        (answer_of result)
+        (record { cache = cache.old; medium = D.medium device.old })
+        (record { cache = cache.new; medium = D.medium device.new }) }
 {
     let mut bytes = BlockBytes::new();
     let found = find_in_levels(levels, query, &mut bytes, cache, device)?;
@@ -109,8 +119,10 @@ pub(crate) fn test_in_levels<D: Device, A: Allocator + Clone>(
     device: &mut D,
 ) -> Result<bool, Refusal>
     requires { AreWithin (D.medium device.old).size query.now.area (places levels.now) }
-    ensures { TestsRuns query.now.area query.now.key.now query.now.at (places levels.now) guard.now result
-        (record { cache = cache.old; medium = D.medium device.old }) (record { cache = cache.new; medium = D.medium device.new }) }
+    ensures { TestsRuns query.now.area query.now.key.now query.now.at (places levels.now) guard.now
+        result
+        (record { cache = cache.old; medium = D.medium device.old })
+        (record { cache = cache.new; medium = D.medium device.new }) }
 {
     let mut bytes = BlockBytes::new();
     let found = find_in_levels(levels, query, &mut bytes, cache, device)?;

@@ -174,7 +174,9 @@ fn lesser<'a, H: HeldJobs, A: Allocator>(
     requires run { IsRun rest.now }
     requires behind { AllByRecursion (λ t. at_most table.now.first t.last ≡ true) rest.now }
     ensures { option_copied result
-        ≡ (if is_less table.now (option_copied found.entry) && (is_wanted wanted table.now && can_merge (H.jobs held.now) (table.now ∷ []) rest.now) then Some table.now else option_copied found.entry) }
+        ≡ (if is_less table.now (option_copied found.entry)
+        && (is_wanted wanted table.now && can_merge (H.jobs held.now) (table.now ∷ []) rest.now)
+        then Some table.now else option_copied found.entry) }
 {
     if is_less(table, found) && (is_wanted(wanted, table) && can_merge(held, table, rest)) {
         return Some(table);
@@ -193,7 +195,10 @@ fn least_to_merge<'a, H: HeldJobs, A: Allocator>(
 ) -> Option<&'a PlacedTable<A>>
     requires tables { IsRun tables.now }
     requires below { IsRun below.now }
-    ensures { option_copied result ≡ least_numbered (filter (λ t. is_wanted wanted t && can_merge (H.jobs held.now) (t ∷ []) below.now) tables.now) }
+    ensures { option_copied result
+        ≡ least_numbered
+        (filter (λ t. is_wanted wanted t && can_merge (H.jobs held.now) (t ∷ []) below.now)
+        tables.now) }
 {
     let mut least: Option<&PlacedTable<A>> = None;
     let mut rest = below;
@@ -250,7 +255,8 @@ fn least_job<'a, H: HeldJobs, A: Allocator>(
     below: &'a Run<A>,
     held: &H,
 ) -> Option<Pick<'a, A>>
-    ensures { option_map job_of result ≡ least_job (is_wanted wanted) tables.now below.now (H.jobs held.now) level }
+    ensures { option_map job_of result
+        ≡ least_job (is_wanted wanted) tables.now below.now (H.jobs held.now) level }
 {
     match least_to_merge(held, wanted, tables.tables(), below.tables()) {
         Some(upper) => {
@@ -294,7 +300,8 @@ pub(crate) fn rule_job<'a, H: HeldJobs, A: Allocator>(
     below: &'a Run<A>,
     held: &H,
 ) -> Option<Pick<'a, A>>
-    ensures { option_map job_of result ≡ rule_job rule tables.now below.now (H.jobs held.now) level }
+    ensures { option_map job_of result
+        ≡ rule_job rule tables.now below.now (H.jobs held.now) level }
 {
     match rule {
         Rule::ManyDeletes => least_job(Wanted::MostlyDeletes, level, tables, below, held),

@@ -45,7 +45,8 @@ fn is_sooner<A: Allocator>(
     place: usize,
     other: usize,
 ) -> bool
-    ensures { result ≡ is_sooner (Some (shown version.now)) place (head_at (map present sources.now) other) other }
+    ensures { result ≡ is_sooner (Some (shown version.now)) place
+        (head_at (map present sources.now) other) other }
 {
     match current_at(sources, other) {
         Some(found) => version.key.cmp(found.key).then(place.cmp(&other)).is_lt(),
@@ -62,8 +63,15 @@ fn count_later<A: Allocator>(
     place: usize,
 ) -> usize
     ensures bound { result ≤ length places.now }
-    ensures later { IsQueued (map present sources.now) places.now → take result places.now ≡ filter (λ j. is_sooner (Some (shown version.now)) place (head_at (map present sources.now) j) j) places.now }
-    ensures sooner { IsQueued (map present sources.now) places.now → drop result places.now ≡ filter (λ j. not (is_sooner (Some (shown version.now)) place (head_at (map present sources.now) j) j)) places.now }
+    ensures later { IsQueued (map present sources.now) places.now
+        → take result places.now
+        ≡ filter (λ j. is_sooner (Some (shown version.now)) place
+        (head_at (map present sources.now) j) j) places.now }
+    ensures sooner { IsQueued (map present sources.now) places.now
+        → drop result places.now
+        ≡ filter (λ j. not
+        (is_sooner (Some (shown version.now)) place (head_at (map present sources.now) j)
+        j)) places.now }
 {
     if let Some((next, _others)) = places.split_last() {
         if is_sooner(sources, version, place, *next) {
@@ -77,14 +85,16 @@ fn count_later<A: Allocator>(
 fn turn_last(places: &mut [usize], at: usize)
     requires { at < length places.old }
     ensures len { length places.new ≡ length places.old }
-    ensures turned { (others : List ℕ) (i : ℕ) → places.old ≡ others ++ i ∷ [] → places.new ≡ insert others at i }
+    ensures turned { (others : List ℕ) (i : ℕ) → places.old ≡ others ++ i ∷ []
+        → places.new ≡ insert others at i }
 {
     places[at..].rotate_right(1);
 }
 
 /// Puts the last of these places where its source belongs among the others, or out where that has no version left.
 fn settle_last<A: Allocator>(places: &mut Vec<usize, A>, sources: &[SourceCursor<'_, A>])
-    ensures { (is_in : ℕ → Bool) (others : List ℕ) (i : ℕ) → places.old.items ≡ others ++ i ∷ [] → is_in i ≡ true → IsQueue (map present sources.now) (λ j. is_in j && not (j == i)) others
+    ensures { (is_in : ℕ → Bool) (others : List ℕ) (i : ℕ) → places.old.items ≡ others ++ i ∷ []
+        → is_in i ≡ true → IsQueue (map present sources.now) (λ j. is_in j && not (j == i)) others
         → IsQueue (map present sources.now) is_in places.new.items }
 {
     let Some((last, others)) = places.split_last() else {
@@ -116,7 +126,8 @@ impl<A: Allocator> Queue<A> {
     pub(crate) fn next(&self) -> Option<usize>
         ensures last { MatchOption result (self.now ≡ []) (λ i. EndsIn i self.now) }
         ensures next { (heads : List (Option Version)) → IsQueue heads (λ j. true) self.now
-            → MatchOption result (AreSpent heads) (λ i. IsNext heads i × (is_some (head_at heads i) ≡ true)) }
+            → MatchOption result (AreSpent heads)
+            (λ i. IsNext heads i × (is_some (head_at heads i) ≡ true)) }
     {
         match self.places.split_last() {
             Some((place, _others)) => Some(*place),
@@ -127,7 +138,8 @@ impl<A: Allocator> Queue<A> {
     /// Puts the source that came next where it belongs, once it has gone on, or out where it has no version left. It is
     /// compared with a logarithm of the others. It takes no memory.
     pub(crate) fn settle(&mut self, sources: &[SourceCursor<'_, A>])
-        ensures { (heads : List (Option Version)) (i : ℕ) → EndsIn i self.old → IsQueue heads (λ j. true) self.old → OneGoesOn i heads (map present sources.now)
+        ensures { (heads : List (Option Version)) (i : ℕ) → EndsIn i self.old
+            → IsQueue heads (λ j. true) self.old → OneGoesOn i heads (map present sources.now)
             → IsQueue (map present sources.now) (λ j. true) self.new }
     {
         settle_last(&mut self.places, sources);

@@ -10,7 +10,8 @@ use std::marker::Model;
 
 /// Whether a table has keys, and ends before all of the others, in case they are a run.
 fn stands_before<A: Allocator>(table: &PlacedTable<A>, others: &[PlacedTable<A>]) -> bool
-    ensures { result ≡ (at_most table.now.first table.now.last && is_before_first table.now others.now) }
+    ensures { result
+        ≡ (at_most table.now.first table.now.last && is_before_first table.now others.now) }
 {
     let is_in_order = table.first().cmp(table.last()).is_le();
     match others {
@@ -76,7 +77,8 @@ impl<A: Allocator> Run<A> {
 
     /// The tables that meet the range from a key to another.
     pub(crate) fn meeting(&self, first: &[u8], last: &[u8]) -> &[PlacedTable<A>]
-        ensures { result.now ≡ filter (meets (record { first = first.now; last = last.now })) self.now }
+        ensures { result.now ≡ filter (meets (record { first = first.now; last = last.now }))
+            self.now }
     {
         meeting(&self.tables, first, last)
     }
@@ -89,8 +91,12 @@ impl<A: Allocator> Run<A> {
         new: &mut Vec<PlacedTable<A>, A>,
     ) -> Result<(), AllocError>
         requires range { at_most first.now last.now ≡ true }
-        requires run { IsRun (put_at (record { first = first.now; last = last.now }) new.old.items self.old) }
-        ensures replaced { self.new ≡ (if is_ok result then put_at (record { first = first.now; last = last.now }) new.old.items self.old else self.old) }
+        requires run { IsRun
+            (put_at (record { first = first.now; last = last.now }) new.old.items self.old) }
+        ensures replaced { self.new
+            ≡ (if is_ok result
+            then put_at (record { first = first.now; last = last.now }) new.old.items self.old
+            else self.old) }
         ensures moved { new.new.items ≡ (if is_ok result then [] else new.old.items) }
         ensures stays { IsRun self.new }
     {
@@ -102,7 +108,8 @@ impl<A: Allocator> Run<A> {
     /// Removes the tables that meet a range. It takes no memory.
     pub(crate) fn remove(&mut self, first: &[u8], last: &[u8])
         requires { at_most first.now last.now ≡ true }
-        ensures removed { self.new ≡ put_at (record { first = first.now; last = last.now }) [] self.old }
+        ensures removed { self.new
+            ≡ put_at (record { first = first.now; last = last.now }) [] self.old }
         ensures stays { IsRun self.new }
     {
         let start = count_before(&self.tables, first);

@@ -25,7 +25,8 @@ fn take_at<A: Allocator + Clone>(
     alloc: &A,
 ) -> Result<bool, AllocError>
     requires { builder.old.next ≡ None }
-    ensures { (v : Version) → head_at (map present sources.now) place ≡ Some v → IfOk result (λ goes_on. Takes v builder.old builder.new goes_on) }
+    ensures { (v : Version) → head_at (map present sources.now) place ≡ Some v
+        → IfOk result (λ goes_on. Takes v builder.old builder.new goes_on) }
 {
     let Some(version) = current_at(sources, place) else {
         return Ok(false);
@@ -44,7 +45,8 @@ fn advance_at<D: Device, A: Allocator + Clone>(
     requires inside { place < length sources.old }
     requires within { AreEndingWithin (D.medium device.old).size sources.old }
     ensures advances { Advances place sources.old sources.new (refusal_of result)
-        (record { cache = cache.old; medium = D.medium device.old }) (record { cache = cache.new; medium = D.medium device.new }) }
+        (record { cache = cache.old; medium = D.medium device.old })
+        (record { cache = cache.new; medium = D.medium device.new }) }
     ensures within { AreEndingWithin (D.medium device.new).size sources.new }
     ensures same_size { (D.medium device.new).size ≡ (D.medium device.old).size }
 {
@@ -63,17 +65,30 @@ fn step<D: Device, A: Allocator + Clone>(
 ) -> Result<bool, Refusal>
     requires { CanGoOn (D.medium device.old).size builder.old sources.old queue.old }
     ensures gathers { MatchResult result
-        (λ goes_on. GoesOrEnds (Gathers builder.old sources.old) (Gathers builder.new sources.new) builder.new goes_on (record { cache = cache.old; medium = D.medium device.old }) (record { cache = cache.new; medium = D.medium device.new }))
-        (λ refusal. Gathers builder.old sources.old (Err refusal) (record { cache = cache.old; medium = D.medium device.old }) (record { cache = cache.new; medium = D.medium device.new })) }
-    ensures asks { AsksOn (blocks_to_come sources.old) (blocks_to_come sources.new) (refusal_of result)
-        (record { cache = cache.old; medium = D.medium device.old }) (record { cache = cache.new; medium = D.medium device.new }) }
+        (λ goes_on. GoesOrEnds (Gathers builder.old sources.old) (Gathers builder.new sources.new)
+        builder.new goes_on (record { cache = cache.old; medium = D.medium device.old })
+        (record { cache = cache.new; medium = D.medium device.new }))
+        (λ refusal. Gathers builder.old sources.old (Err refusal)
+        (record { cache = cache.old; medium = D.medium device.old })
+        (record { cache = cache.new; medium = D.medium device.new })) }
+    ensures asks { AsksOn (blocks_to_come sources.old) (blocks_to_come sources.new)
+        (refusal_of result)
+        (record { cache = cache.old; medium = D.medium device.old })
+        (record { cache = cache.new; medium = D.medium device.new }) }
     ensures comes { (place : Name → Option ℕ) (sectors : List (List ℕ)) (page : MapPage)
-        → ComesTo place sectors page builder.old sources.old (record { cache = cache.old; medium = D.medium device.old })
-        → MatchResult result (λ goes_on. Goes place sectors page builder.new sources.new (record { cache = cache.new; medium = D.medium device.new }) goes_on)
+        → ComesTo place sectors page builder.old sources.old
+        (record { cache = cache.old; medium = D.medium device.old })
+        → MatchResult result
+        (λ goes_on. Goes place sectors page builder.new sources.new
+        (record { cache = cache.new; medium = D.medium device.new }) goes_on)
         (λ refusal. (refusal ≡ Io) ⊎ (refusal ≡ NoMemory)) }
-    ensures keeps { IfOk result (λ goes_on. goes_on ≡ true → CanGoOn (D.medium device.new).size builder.new sources.new queue.new) }
-    ensures fewer { IfOk result (λ goes_on. goes_on ≡ true → steps_left sources.new < steps_left sources.old) }
-    ensures refused { IfErr result (λ refusal. (refusal ≡ Io) ⊎ ((refusal ≡ BadTable) ⊎ (refusal ≡ NoMemory))) }
+    ensures keeps { IfOk result
+        (λ goes_on. goes_on ≡ true
+        → CanGoOn (D.medium device.new).size builder.new sources.new queue.new) }
+    ensures fewer { IfOk result
+        (λ goes_on. goes_on ≡ true → steps_left sources.new < steps_left sources.old) }
+    ensures refused { IfErr result
+        (λ refusal. (refusal ≡ Io) ⊎ ((refusal ≡ BadTable) ⊎ (refusal ≡ NoMemory))) }
 {
     let Some(place) = queue.next() else {
         return Ok(false);
@@ -98,13 +113,18 @@ pub(crate) fn gather<D: Device, A: Allocator + Clone>(
 ) -> Result<(), Refusal>
     requires { CanGoOn (D.medium device.old).size builder.old sources.old queue.old }
     ensures gathers { EndsWith (Gathers builder.old sources.old) (refusal_of result) builder.new
-        (record { cache = cache.old; medium = D.medium device.old }) (record { cache = cache.new; medium = D.medium device.new }) }
+        (record { cache = cache.old; medium = D.medium device.old })
+        (record { cache = cache.new; medium = D.medium device.new }) }
     ensures asks { AsksSome (blocks_to_come sources.old) (refusal_of result)
-        (record { cache = cache.old; medium = D.medium device.old }) (record { cache = cache.new; medium = D.medium device.new }) }
+        (record { cache = cache.old; medium = D.medium device.old })
+        (record { cache = cache.new; medium = D.medium device.new }) }
     ensures comes { (place : Name → Option ℕ) (sectors : List (List ℕ)) (page : MapPage)
-        → ComesTo place sectors page builder.old sources.old (record { cache = cache.old; medium = D.medium device.old })
-        → MatchResult result (λ _. HasCome page builder.new) (λ refusal. (refusal ≡ Io) ⊎ (refusal ≡ NoMemory)) }
-    ensures refused { IfErr result (λ refusal. (refusal ≡ Io) ⊎ ((refusal ≡ BadTable) ⊎ (refusal ≡ NoMemory))) }
+        → ComesTo place sectors page builder.old sources.old
+        (record { cache = cache.old; medium = D.medium device.old })
+        → MatchResult result (λ _. HasCome page builder.new)
+        (λ refusal. (refusal ≡ Io) ⊎ (refusal ≡ NoMemory)) }
+    ensures refused { IfErr result
+        (λ refusal. (refusal ≡ Io) ⊎ ((refusal ≡ BadTable) ⊎ (refusal ≡ NoMemory))) }
 {
     'versions: loop {
         let goes_on = step(sources, queue, builder, alloc, cache, device)?;
@@ -125,13 +145,18 @@ pub(crate) fn gather_all<D: Device, A: Allocator + Clone>(
     requires going { builder.old.next ≡ None }
     requires ready { AreReady (D.medium device.old).size sources.old }
     ensures gathers { EndsWith (Gathers builder.old sources.old) (refusal_of result) builder.new
-        (record { cache = cache.old; medium = D.medium device.old }) (record { cache = cache.new; medium = D.medium device.new }) }
+        (record { cache = cache.old; medium = D.medium device.old })
+        (record { cache = cache.new; medium = D.medium device.new }) }
     ensures asks { AsksSome (blocks_to_come sources.old) (refusal_of result)
-        (record { cache = cache.old; medium = D.medium device.old }) (record { cache = cache.new; medium = D.medium device.new }) }
+        (record { cache = cache.old; medium = D.medium device.old })
+        (record { cache = cache.new; medium = D.medium device.new }) }
     ensures comes { (place : Name → Option ℕ) (sectors : List (List ℕ)) (page : MapPage)
-        → ComesTo place sectors page builder.old sources.old (record { cache = cache.old; medium = D.medium device.old })
-        → MatchResult result (λ _. HasCome page builder.new) (λ refusal. (refusal ≡ Io) ⊎ (refusal ≡ NoMemory)) }
-    ensures refused { IfErr result (λ refusal. (refusal ≡ Io) ⊎ ((refusal ≡ BadTable) ⊎ (refusal ≡ NoMemory))) }
+        → ComesTo place sectors page builder.old sources.old
+        (record { cache = cache.old; medium = D.medium device.old })
+        → MatchResult result (λ _. HasCome page builder.new)
+        (λ refusal. (refusal ≡ Io) ⊎ (refusal ≡ NoMemory)) }
+    ensures refused { IfErr result
+        (λ refusal. (refusal ≡ Io) ⊎ ((refusal ≡ BadTable) ⊎ (refusal ≡ NoMemory))) }
 {
     let mut queue = Queue::of(alloc.clone()?, sources)?;
     gather(sources, &mut queue, builder, alloc, cache, device)?;

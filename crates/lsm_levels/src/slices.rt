@@ -66,7 +66,8 @@ pub(crate) fn ends<A: Allocator>(run: &[PlacedTable<A>]) -> Option<(&[u8], &[u8]
 /// Rotates the tables from index `from` on left by `by` places.
 fn rotate_from<A: Allocator>(tables: &mut [PlacedTable<A>], from: usize, by: usize)
     requires { from + by ≤ length tables.old }
-    ensures { tables.new ≡ take from tables.old ++ (drop by (drop from tables.old) ++ take by (drop from tables.old)) }
+    ensures { tables.new ≡ take from tables.old
+        ++ (drop by (drop from tables.old) ++ take by (drop from tables.old)) }
 {
     tables[from..].rotate_left(by);
 }
@@ -80,7 +81,9 @@ pub(crate) fn splice<A: Allocator>(
 ) -> Result<(), AllocError>
     requires order { start ≤ end }
     requires inside { end ≤ vec_len tables.old }
-    ensures items { tables.new.items ≡ (if is_ok result then take start tables.old.items ++ (new.old.items ++ drop end tables.old.items) else tables.old.items) }
+    ensures items { tables.new.items
+        ≡ (if is_ok result then take start tables.old.items
+        ++ (new.old.items ++ drop end tables.old.items) else tables.old.items) }
     ensures moved { new.new.items ≡ (if is_ok result then [] else new.old.items) }
 {
     let rest = tables.len() - end;

@@ -77,12 +77,15 @@ impl<'a, A: Allocator> SourceCursor<'a, A> {
     where
         A: Clone,
         requires { AllByRecursion (EndsWithin (D.medium device.old).size) self.old.blocks }
-        ensures goes_on { GoesOn (drop 1 self.old.items) self.old.blocks self.new (refusal_of result)
-            (record { cache = cache.old; medium = D.medium device.old }) (record { cache = cache.new; medium = D.medium device.new }) }
+        ensures goes_on { GoesOn (drop 1 self.old.items) self.old.blocks self.new
+            (refusal_of result)
+            (record { cache = cache.old; medium = D.medium device.old })
+            (record { cache = cache.new; medium = D.medium device.new }) }
 
         // The device is only read, one block at most, and the blocks to come lie within it.
         ensures asks { AsksOnce self.old.blocks (refusal_of result)
-            (record { cache = cache.old; medium = D.medium device.old }) (record { cache = cache.new; medium = D.medium device.new }) }
+            (record { cache = cache.old; medium = D.medium device.old })
+            (record { cache = cache.new; medium = D.medium device.new }) }
         ensures within { AllByRecursion (EndsWithin (D.medium device.new).size) self.new.blocks }
         ensures few { OnOk result (length self.new.items ≤ length self.old.items + 4097) }
     {

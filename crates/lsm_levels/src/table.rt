@@ -64,7 +64,8 @@ impl<A: Allocator> Model for PlacedTable<A> {
 impl<A: Allocator> Placed<A> {
     fn table(&self) -> &Table<A>
         ensures same { result.now ≡ self.now.outline }
-        ensures whole { self.now ≡ table_at self.now.outline self.now.start self.now.deletes self.now.versions }
+        ensures whole { self.now
+            ≡ table_at self.now.outline self.now.start self.now.deletes self.now.versions }
     {
         &self.table
     }
@@ -149,8 +150,10 @@ impl<A: Allocator> PlacedTable<A> {
     where
         A: Clone,
         ghost versions: { List Version }
-        ensures opened { IfOk result (λ t. t ≡ table_at t.outline listed.first_block deletes versions) }
-        ensures told { Opens (outline_of listed footer.now index.now filter.now) (outline_opened result) }
+        ensures opened { IfOk result
+            (λ t. t ≡ table_at t.outline listed.first_block deletes versions) }
+        ensures told { Opens (outline_of listed footer.now index.now filter.now)
+            (outline_opened result) }
     {
         PlacedTable::open_sized(alloc, listed, deletes, LARGEST, footer, index, filter)
     }
@@ -169,8 +172,10 @@ impl<A: Allocator> PlacedTable<A> {
         A: Clone,
         ghost versions: { List Version }
         requires { AreAtMost largest versions }
-        ensures opened { IfOk result (λ t. t ≡ table_at t.outline listed.first_block deletes versions) }
-        ensures told { Opens (outline_of listed footer.now index.now filter.now) (outline_opened result) }
+        ensures opened { IfOk result
+            (λ t. t ≡ table_at t.outline listed.first_block deletes versions) }
+        ensures told { Opens (outline_of listed footer.now index.now filter.now)
+            (outline_opened result) }
     {
         outline_law();
         let table = Table::open(alloc.clone()?, listed, footer, index, filter)?;
@@ -190,7 +195,9 @@ impl<A: Allocator> PlacedTable<A> {
         ghost versions: { List Version }
         requires number { number ≤ 2 ^ 63 }
         requires largest { AreAtMost largest versions }
-        ensures placed { IfOk result (λ t. t ≡ table_at (outline_in number (filter_of (keys_of image.now)) image.now) first_block (deletes_in (entries_of image.now)) versions) }
+        ensures placed { IfOk result
+            (λ t. t ≡ table_at (outline_in number (filter_of (keys_of image.now)) image.now)
+            first_block (deletes_in (entries_of image.now)) versions) }
         ensures memory { IfErr result (λ refusal. refusal ≡ NoMemory) }
     {
         outline_law();
@@ -237,7 +244,8 @@ impl<A: Allocator> PlacedTable<A> {
     /// What footer, index and filter tell of it.
     pub fn table(&self) -> &Table<A>
         ensures same { result.now ≡ self.now.outline }
-        ensures whole { self.now ≡ table_at self.now.outline self.now.start self.now.deletes self.now.versions }
+        ensures whole { self.now
+            ≡ table_at self.now.outline self.now.start self.now.deletes self.now.versions }
     {
         self.shared.table()
     }

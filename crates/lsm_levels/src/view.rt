@@ -65,7 +65,9 @@ impl<'a, A: Allocator> ReadView<'a, A> {
 
     /// The newest version of the key in memory, or else in sealed memory, that is numbered at most `at`.
     fn newest_in_memory(&self, key: &[u8], at: u64) -> Option<VersionRef<'_>>
-        ensures { option_map shown result ≡ option_or (newest key.now at self.now.mem.now) (newest key.now at (sealed_now self.now.sealed)) }
+        ensures { option_map shown result
+            ≡ option_or (newest key.now at self.now.mem.now)
+            (newest key.now at (sealed_now self.now.sealed)) }
     {
         if let Some(version) = self.mem.get(key, at) {
             return Some(version);
@@ -85,8 +87,10 @@ impl<'a, A: Allocator + Clone> ReadView<'a, A> {
         at: u64,
     ) -> Result<Option<Vec<u8, A>>, Refusal>
         requires { AreWithin (D.medium device.old).size self.now.area (places self.now.levels.now) }
-        ensures { IsLookUp self.now.mem.now (sealed_now self.now.sealed) (places self.now.levels.now) self.now.area key.now at (answer_of result)
-            (record { cache = cache.old; medium = D.medium device.old }) (record { cache = cache.new; medium = D.medium device.new }) }
+        ensures { IsLookUp self.now.mem.now (sealed_now self.now.sealed)
+            (places self.now.levels.now) self.now.area key.now at (answer_of result)
+            (record { cache = cache.old; medium = D.medium device.old })
+            (record { cache = cache.new; medium = D.medium device.new }) }
     {
         if let Some(version) = self.newest_in_memory(key, at) {
             return copied(alloc, version.value);
@@ -109,8 +113,10 @@ impl<'a, A: Allocator + Clone> ReadView<'a, A> {
         at: u64,
     ) -> Result<bool, Refusal>
         requires { AreWithin (D.medium device.old).size self.now.area (places self.now.levels.now) }
-        ensures { IsTest self.now.mem.now (sealed_now self.now.sealed) (places self.now.levels.now) self.now.area guard.now at result
-            (record { cache = cache.old; medium = D.medium device.old }) (record { cache = cache.new; medium = D.medium device.new }) }
+        ensures { IsTest self.now.mem.now (sealed_now self.now.sealed) (places self.now.levels.now)
+            self.now.area guard.now at result
+            (record { cache = cache.old; medium = D.medium device.old })
+            (record { cache = cache.new; medium = D.medium device.new }) }
     {
         let key = guard.key();
         if let Some(version) = self.newest_in_memory(key, at) {
@@ -143,30 +149,48 @@ impl<'a, A: Allocator + Clone> ReadView<'a, A> {
         requires { AreWithin (D.medium device.old).size self.now.area (places self.now.levels.now) }
 
         // Which blocks are asked for, how they are given, and what they say.
-        ensures looks { IsLookUp self.now.mem.now (sealed_now self.now.sealed) (places self.now.levels.now) self.now.area key.now at (answer_of result)
-            (record { cache = cache.old; medium = D.medium device.old }) (record { cache = cache.new; medium = D.medium device.new }) }
+        ensures looks { IsLookUp self.now.mem.now (sealed_now self.now.sealed)
+            (places self.now.levels.now) self.now.area key.now at (answer_of result)
+            (record { cache = cache.old; medium = D.medium device.old })
+            (record { cache = cache.new; medium = D.medium device.new }) }
 
         // Where the tables stand, and the blocks of the cache are those of the device, the answer is that of the map, unless a
         // read faults, or the key has a value and memory for its copy is refused.
-        ensures answers { (place : Name → Option ℕ) → IsReadable place self.now.area (places self.now.levels.now) (record { cache = cache.old; medium = D.medium device.old })
-            → IsVersionOrder (versions_in_places self.now.mem.now (sealed_now self.now.sealed) (places self.now.levels.now))
+        ensures answers { (place : Name → Option ℕ)
+            → IsReadable place self.now.area (places self.now.levels.now)
+            (record { cache = cache.old; medium = D.medium device.old })
+            → IsVersionOrder
+            (versions_in_places self.now.mem.now (sealed_now self.now.sealed)
+            (places self.now.levels.now))
             → MatchResult result (λ value. option_map (λ v. v.items) value
-            ≡ finite.get (map_of (joined (versions_in_places self.now.mem.now (sealed_now self.now.sealed) (places self.now.levels.now))) at) key.now)
+            ≡ finite.get (map_of
+            (joined (versions_in_places self.now.mem.now (sealed_now self.now.sealed)
+            (places self.now.levels.now))) at) key.now)
             (λ refusal. (refusal ≡ Io) ⊎ ((refusal ≡ NoMemory)
-            × (is_some (finite.get (map_of (joined (versions_in_places self.now.mem.now (sealed_now self.now.sealed) (places self.now.levels.now))) at) key.now) ≡ true))) }
+            × (is_some (finite.get
+            (map_of (joined (versions_in_places self.now.mem.now
+            (sealed_now self.now.sealed) (places self.now.levels.now)))
+            at) key.now) ≡ true))) }
 
         // The blocks of the cache go on to be those of the device, of tables with numbers below any that all have been below.
         ensures fresh { (place : Name → Option ℕ) → IsTrue (D.medium device.old).lasting.tells
             → ArePlaced place self.now.area (places self.now.levels.now)
-            → IsFresh place (seen (disk (D.medium device.old))) cache.old → IsFresh place (seen (disk (D.medium device.new))) cache.new }
-        ensures numbered { (number : ℕ) → AreNumberedBelow number (places self.now.levels.now) → IsNumberedBelow number cache.old → IsNumberedBelow number cache.new }
+            → IsFresh place (seen (disk (D.medium device.old))) cache.old
+            → IsFresh place (seen (disk (D.medium device.new))) cache.new }
+        ensures numbered { (number : ℕ) → AreNumberedBelow number (places self.now.levels.now)
+            → IsNumberedBelow number cache.old → IsNumberedBelow number cache.new }
 
         // The device is only read, eight sectors a run at most. Fails with Io only for a read that faulted, its last.
-        ensures refused { IfErr result (λ refusal. (refusal ≡ Io) ⊎ ((refusal ≡ BadTable) ⊎ (refusal ≡ NoMemory))) }
-        ensures faults { (D.medium device.new).calls.faults ≡ faults_after (faultless result) (D.medium device.old).calls.faults }
-        ensures stops { IfErr result (λ refusal. refusal ≡ Io → IsTrue (D.medium device.new).calls.last_faulted) }
-        ensures calls { AtMost (8 * length (places self.now.levels.now)) 0 0 (D.medium device.old).calls (D.medium device.new).calls }
-        ensures unchanged { IsTrue (D.medium device.old).lasting.tells → (D.medium device.new).history ≡ (D.medium device.old).history }
+        ensures refused { IfErr result
+            (λ refusal. (refusal ≡ Io) ⊎ ((refusal ≡ BadTable) ⊎ (refusal ≡ NoMemory))) }
+        ensures faults { (D.medium device.new).calls.faults
+            ≡ faults_after (faultless result) (D.medium device.old).calls.faults }
+        ensures stops { IfErr result
+            (λ refusal. refusal ≡ Io → IsTrue (D.medium device.new).calls.last_faulted) }
+        ensures calls { AtMost (8 * length (places self.now.levels.now)) 0 0
+            (D.medium device.old).calls (D.medium device.new).calls }
+        ensures unchanged { IsTrue (D.medium device.old).lasting.tells
+            → (D.medium device.new).history ≡ (D.medium device.old).history }
         ensures same_size { (D.medium device.new).size ≡ (D.medium device.old).size }
         ensures same_lasting { (D.medium device.new).lasting ≡ (D.medium device.old).lasting }
     {
@@ -189,27 +213,41 @@ impl<'a, A: Allocator + Clone> ReadView<'a, A> {
         requires { AreWithin (D.medium device.old).size self.now.area (places self.now.levels.now) }
 
         // Which blocks are asked for, how they are given, and what they say.
-        ensures tests { IsTest self.now.mem.now (sealed_now self.now.sealed) (places self.now.levels.now) self.now.area guard.now at result
-            (record { cache = cache.old; medium = D.medium device.old }) (record { cache = cache.new; medium = D.medium device.new }) }
+        ensures tests { IsTest self.now.mem.now (sealed_now self.now.sealed)
+            (places self.now.levels.now) self.now.area guard.now at result
+            (record { cache = cache.old; medium = D.medium device.old })
+            (record { cache = cache.new; medium = D.medium device.new }) }
 
         // Where the tables stand, and the blocks of the cache are those of the device, the answer is that of the map, unless a
         // read faults.
-        ensures answers { (place : Name → Option ℕ) → IsReadable place self.now.area (places self.now.levels.now) (record { cache = cache.old; medium = D.medium device.old })
-            → IsVersionOrder (versions_in_places self.now.mem.now (sealed_now self.now.sealed) (places self.now.levels.now))
+        ensures answers { (place : Name → Option ℕ)
+            → IsReadable place self.now.area (places self.now.levels.now)
+            (record { cache = cache.old; medium = D.medium device.old })
+            → IsVersionOrder
+            (versions_in_places self.now.mem.now (sealed_now self.now.sealed)
+            (places self.now.levels.now))
             → MatchResult result
-            (λ met. met ≡ is_met (map_of (joined (versions_in_places self.now.mem.now (sealed_now self.now.sealed) (places self.now.levels.now))) at) guard.now)
+            (λ met. met ≡ is_met
+            (map_of (joined (versions_in_places self.now.mem.now (sealed_now self.now.sealed)
+            (places self.now.levels.now))) at) guard.now)
             (λ refusal. refusal ≡ Io) }
 
         // Cache and device are used as for a look-up.
         ensures fresh { (place : Name → Option ℕ) → IsTrue (D.medium device.old).lasting.tells
             → ArePlaced place self.now.area (places self.now.levels.now)
-            → IsFresh place (seen (disk (D.medium device.old))) cache.old → IsFresh place (seen (disk (D.medium device.new))) cache.new }
-        ensures numbered { (number : ℕ) → AreNumberedBelow number (places self.now.levels.now) → IsNumberedBelow number cache.old → IsNumberedBelow number cache.new }
+            → IsFresh place (seen (disk (D.medium device.old))) cache.old
+            → IsFresh place (seen (disk (D.medium device.new))) cache.new }
+        ensures numbered { (number : ℕ) → AreNumberedBelow number (places self.now.levels.now)
+            → IsNumberedBelow number cache.old → IsNumberedBelow number cache.new }
         ensures refused { IfErr result (λ refusal. (refusal ≡ Io) ⊎ (refusal ≡ BadTable)) }
-        ensures faults { (D.medium device.new).calls.faults ≡ faults_after (faultless result) (D.medium device.old).calls.faults }
-        ensures stops { IfErr result (λ refusal. refusal ≡ Io → IsTrue (D.medium device.new).calls.last_faulted) }
-        ensures calls { AtMost (8 * length (places self.now.levels.now)) 0 0 (D.medium device.old).calls (D.medium device.new).calls }
-        ensures unchanged { IsTrue (D.medium device.old).lasting.tells → (D.medium device.new).history ≡ (D.medium device.old).history }
+        ensures faults { (D.medium device.new).calls.faults
+            ≡ faults_after (faultless result) (D.medium device.old).calls.faults }
+        ensures stops { IfErr result
+            (λ refusal. refusal ≡ Io → IsTrue (D.medium device.new).calls.last_faulted) }
+        ensures calls { AtMost (8 * length (places self.now.levels.now)) 0 0
+            (D.medium device.old).calls (D.medium device.new).calls }
+        ensures unchanged { IsTrue (D.medium device.old).lasting.tells
+            → (D.medium device.new).history ≡ (D.medium device.old).history }
         ensures same_size { (D.medium device.new).size ≡ (D.medium device.old).size }
         ensures same_lasting { (D.medium device.new).lasting ≡ (D.medium device.old).lasting }
     {
@@ -226,8 +264,12 @@ impl<'a, A: Allocator + Clone> ReadView<'a, A> {
         at: u64,
     ) -> Result<(), AllocError>
         requires { sources.old.items ≡ [] }
-        ensures left { OnOk result (sources.new.items ≡ map (λ place. cursor_of_versions (from_key from.now (newest_each at place))) (memory_places self.now.mem.now self.now.sealed)) }
-        ensures ordered { OnOk result (AllByRecursion AreOrdered (memory_places self.now.mem.now self.now.sealed)) }
+        ensures left { OnOk result
+            (sources.new.items
+            ≡ map (λ place. cursor_of_versions (from_key from.now (newest_each at place)))
+            (memory_places self.now.mem.now self.now.sealed)) }
+        ensures ordered { OnOk result
+            (AllByRecursion AreOrdered (memory_places self.now.mem.now self.now.sealed)) }
     {
         let _versions = self.mem.versions();
         sources.push(SourceCursor::of_range(self.mem.range(from, at)?))?;
@@ -245,8 +287,13 @@ impl<'a, A: Allocator + Clone> ReadView<'a, A> {
         from: &[u8],
         at: u64,
     ) -> Result<Vec<SourceCursor<'a, A>, A>, AllocError>
-        ensures left { IfOk result (λ sources. sources.items ≡ map (λ place. cursor_of_versions (from_key from.now (newest_each at place))) (memory_places self.now.mem.now self.now.sealed)) }
-        ensures ordered { IfOk result (λ sources. AllByRecursion AreOrdered (memory_places self.now.mem.now self.now.sealed)) }
+        ensures left { IfOk result
+            (λ sources. sources.items
+            ≡ map (λ place. cursor_of_versions (from_key from.now (newest_each at place)))
+            (memory_places self.now.mem.now self.now.sealed)) }
+        ensures ordered { IfOk result
+            (λ sources. AllByRecursion AreOrdered
+            (memory_places self.now.mem.now self.now.sealed)) }
     {
         let count = self.levels.runs().len().saturating_add(6);
         let mut sources = Vec::with_capacity(alloc.clone()?, count)?;
@@ -265,24 +312,43 @@ impl<'a, A: Allocator + Clone> ReadView<'a, A> {
     ) -> Result<Vec<SourceCursor<'a, A>, A>, Refusal>
         requires { AreWithin (D.medium device.old).size self.now.area (places self.now.levels.now) }
         ensures gathers { (g : Gathering) → MatchResult result
-            (λ sources. GoesOver (GathersRuns g self.now.area from.now (places self.now.levels.now) (cursors_of from.now at (memory_places self.now.mem.now self.now.sealed))) (Gathers g sources.items) None
-            (record { cache = cache.old; medium = D.medium device.old }) (record { cache = cache.new; medium = D.medium device.new }))
-            (λ refusal. GathersRuns g self.now.area from.now (places self.now.levels.now) (cursors_of from.now at (memory_places self.now.mem.now self.now.sealed)) (Err refusal)
-            (record { cache = cache.old; medium = D.medium device.old }) (record { cache = cache.new; medium = D.medium device.new })) }
+            (λ sources. GoesOver
+            (GathersRuns g self.now.area from.now (places self.now.levels.now)
+            (cursors_of from.now at (memory_places self.now.mem.now self.now.sealed)))
+            (Gathers g sources.items) None
+            (record { cache = cache.old; medium = D.medium device.old })
+            (record { cache = cache.new; medium = D.medium device.new }))
+            (λ refusal. GathersRuns g self.now.area from.now (places self.now.levels.now)
+            (cursors_of from.now at (memory_places self.now.mem.now self.now.sealed))
+            (Err refusal)
+            (record { cache = cache.old; medium = D.medium device.old })
+            (record { cache = cache.new; medium = D.medium device.new })) }
         ensures asks { MatchResult result
-            (λ sources. AsksOn (blocks_of_runs self.now.area from.now (places self.now.levels.now)) (blocks_to_come sources.items) None
-            (record { cache = cache.old; medium = D.medium device.old }) (record { cache = cache.new; medium = D.medium device.new }))
-            (λ refusal. AsksSome (blocks_of_runs self.now.area from.now (places self.now.levels.now)) (Some refusal)
-            (record { cache = cache.old; medium = D.medium device.old }) (record { cache = cache.new; medium = D.medium device.new })) }
-        ensures comes { (place : Name → Option ℕ) → IsReadable place self.now.area (places self.now.levels.now) (record { cache = cache.old; medium = D.medium device.old })
-            → IsVersionOrder (versions_in_places self.now.mem.now (sealed_now self.now.sealed) (places self.now.levels.now))
+            (λ sources. AsksOn (blocks_of_runs self.now.area from.now (places self.now.levels.now))
+            (blocks_to_come sources.items) None
+            (record { cache = cache.old; medium = D.medium device.old })
+            (record { cache = cache.new; medium = D.medium device.new }))
+            (λ refusal. AsksSome
+            (blocks_of_runs self.now.area from.now (places self.now.levels.now)) (Some refusal)
+            (record { cache = cache.old; medium = D.medium device.old })
+            (record { cache = cache.new; medium = D.medium device.new })) }
+        ensures comes { (place : Name → Option ℕ)
+            → IsReadable place self.now.area (places self.now.levels.now)
+            (record { cache = cache.old; medium = D.medium device.old })
+            → IsVersionOrder
+            (versions_in_places self.now.mem.now (sealed_now self.now.sealed)
+            (places self.now.levels.now))
             → MatchResult result (λ sources. (to : Option Bytes) (limit : ℕ)
             → ComesTo place (seen (disk (D.medium device.old)))
-            (page_of (map_of (joined (versions_in_places self.now.mem.now (sealed_now self.now.sealed) (places self.now.levels.now))) at) from.now to limit)
-            (gathering at to limit) sources.items (record { cache = cache.new; medium = D.medium device.new }))
+            (page_of (map_of
+            (joined (versions_in_places self.now.mem.now (sealed_now self.now.sealed)
+            (places self.now.levels.now))) at) from.now to limit)
+            (gathering at to limit) sources.items
+            (record { cache = cache.new; medium = D.medium device.new }))
             (λ refusal. (refusal ≡ Io) ⊎ (refusal ≡ NoMemory)) }
         ensures ready { IfOk result (λ sources. AreReady (D.medium device.new).size sources.items) }
-        ensures refused { IfErr result (λ refusal. (refusal ≡ Io) ⊎ ((refusal ≡ BadTable) ⊎ (refusal ≡ NoMemory))) }
+        ensures refused { IfErr result
+            (λ refusal. (refusal ≡ Io) ⊎ ((refusal ≡ BadTable) ⊎ (refusal ≡ NoMemory))) }
     {
         let runs = self.levels.runs();
         let mut sources = self.memory(alloc, from, at)?;
@@ -302,18 +368,33 @@ impl<'a, A: Allocator + Clone> ReadView<'a, A> {
         from: &[u8],
         at: u64,
     ) -> Result<(), Refusal>
-        requires within { AreWithin (D.medium device.old).size self.now.area (places self.now.levels.now) }
+        requires within { AreWithin (D.medium device.old).size self.now.area
+            (places self.now.levels.now) }
         requires going { builder.old.next ≡ None }
-        ensures gathers { EndsWith (GathersRuns builder.old self.now.area from.now (places self.now.levels.now) (cursors_of from.now at (memory_places self.now.mem.now self.now.sealed))) (refusal_of result) builder.new
-            (record { cache = cache.old; medium = D.medium device.old }) (record { cache = cache.new; medium = D.medium device.new }) }
-        ensures asks { AsksSome (blocks_of_runs self.now.area from.now (places self.now.levels.now)) (refusal_of result)
-            (record { cache = cache.old; medium = D.medium device.old }) (record { cache = cache.new; medium = D.medium device.new }) }
-        ensures comes { (place : Name → Option ℕ) (to : Option Bytes) (limit : ℕ) → IsReadable place self.now.area (places self.now.levels.now) (record { cache = cache.old; medium = D.medium device.old })
-            → IsVersionOrder (versions_in_places self.now.mem.now (sealed_now self.now.sealed) (places self.now.levels.now)) → builder.old ≡ gathering at to limit
+        ensures gathers { EndsWith
+            (GathersRuns builder.old self.now.area from.now (places self.now.levels.now)
+            (cursors_of from.now at (memory_places self.now.mem.now self.now.sealed)))
+            (refusal_of result) builder.new
+            (record { cache = cache.old; medium = D.medium device.old })
+            (record { cache = cache.new; medium = D.medium device.new }) }
+        ensures asks { AsksSome (blocks_of_runs self.now.area from.now (places self.now.levels.now))
+            (refusal_of result)
+            (record { cache = cache.old; medium = D.medium device.old })
+            (record { cache = cache.new; medium = D.medium device.new }) }
+        ensures comes { (place : Name → Option ℕ) (to : Option Bytes) (limit : ℕ)
+            → IsReadable place self.now.area (places self.now.levels.now)
+            (record { cache = cache.old; medium = D.medium device.old })
+            → IsVersionOrder
+            (versions_in_places self.now.mem.now (sealed_now self.now.sealed)
+            (places self.now.levels.now)) → builder.old ≡ gathering at to limit
             → MatchResult result
-            (λ _. HasCome (page_of (map_of (joined (versions_in_places self.now.mem.now (sealed_now self.now.sealed) (places self.now.levels.now))) at) from.now to limit) builder.new)
+            (λ _. HasCome (page_of
+            (map_of (joined (versions_in_places self.now.mem.now
+            (sealed_now self.now.sealed) (places self.now.levels.now))) at)
+            from.now to limit) builder.new)
             (λ refusal. (refusal ≡ Io) ⊎ (refusal ≡ NoMemory)) }
-        ensures refused { IfErr result (λ refusal. (refusal ≡ Io) ⊎ ((refusal ≡ BadTable) ⊎ (refusal ≡ NoMemory))) }
+        ensures refused { IfErr result
+            (λ refusal. (refusal ≡ Io) ⊎ ((refusal ≡ BadTable) ⊎ (refusal ≡ NoMemory))) }
     {
         let mut sources = self.sources(alloc, cache, device, from, at)?;
         gather_all(&mut sources, builder, alloc, cache, device)?;
@@ -339,22 +420,35 @@ impl<'a, A: Allocator + Clone> ReadView<'a, A> {
         requires { AreWithin (D.medium device.old).size self.now.area (places self.now.levels.now) }
 
         // Which blocks are asked for, and what it comes to: reads alone, eight sectors a block at most.
-        ensures asks { ScansRuns self.now.area range.entry.0.now (places self.now.levels.now) (refusal_of result)
-            (record { cache = cache.old; medium = D.medium device.old }) (record { cache = cache.new; medium = D.medium device.new }) }
+        ensures asks { ScansRuns self.now.area range.entry.0.now (places self.now.levels.now)
+            (refusal_of result)
+            (record { cache = cache.old; medium = D.medium device.old })
+            (record { cache = cache.new; medium = D.medium device.new }) }
 
         // The page of what the blocks that it asks for have, whatever that is; it fails with `BadTable` just where bytes that
         // are no entry come next in one.
-        ensures scans { IsScan self.now.mem.now (sealed_now self.now.sealed) (places self.now.levels.now) self.now.area range.entry.0.now (option_map (λ to. to.now) range.entry.1) limit at result
-            (record { cache = cache.old; medium = D.medium device.old }) (record { cache = cache.new; medium = D.medium device.new }) }
+        ensures scans { IsScan self.now.mem.now (sealed_now self.now.sealed)
+            (places self.now.levels.now) self.now.area range.entry.0.now
+            (option_map (λ to. to.now) range.entry.1) limit at result
+            (record { cache = cache.old; medium = D.medium device.old })
+            (record { cache = cache.new; medium = D.medium device.new }) }
 
         // Where the tables stand, and the blocks of the cache are those of the device, the page is that of the map, unless a
         // read faults or memory is refused.
-        ensures answers { (place : Name → Option ℕ) → IsReadable place self.now.area (places self.now.levels.now) (record { cache = cache.old; medium = D.medium device.old })
-            → IsVersionOrder (versions_in_places self.now.mem.now (sealed_now self.now.sealed) (places self.now.levels.now))
+        ensures answers { (place : Name → Option ℕ)
+            → IsReadable place self.now.area (places self.now.levels.now)
+            (record { cache = cache.old; medium = D.medium device.old })
+            → IsVersionOrder
+            (versions_in_places self.now.mem.now (sealed_now self.now.sealed)
+            (places self.now.levels.now))
             → MatchResult result (λ page. page
-            ≡ page_of (map_of (joined (versions_in_places self.now.mem.now (sealed_now self.now.sealed) (places self.now.levels.now))) at) range.entry.0.now (option_map (λ to. to.now) range.entry.1) limit)
+            ≡ page_of (map_of
+            (joined (versions_in_places self.now.mem.now (sealed_now self.now.sealed)
+            (places self.now.levels.now))) at) range.entry.0.now
+            (option_map (λ to. to.now) range.entry.1) limit)
             (λ refusal. (refusal ≡ Io) ⊎ (refusal ≡ NoMemory)) }
-        ensures refused { IfErr result (λ refusal. (refusal ≡ Io) ⊎ ((refusal ≡ BadTable) ⊎ (refusal ≡ NoMemory))) }
+        ensures refused { IfErr result
+            (λ refusal. (refusal ≡ Io) ⊎ ((refusal ≡ BadTable) ⊎ (refusal ≡ NoMemory))) }
     {
         let (from, to) = range;
         let mut builder = PageBuilder::new(alloc, to, at, limit)?;

@@ -51,14 +51,19 @@ pub fn lives<R: Threads + Sync, A: Allocator + Clone + Send + Sync, B: Allocator
 
     // Whatever the device holds, life by life it is the same device: the fuse is set, the store is opened, makes the
     // steps and replies, and the device crashes by the mask. Without a life it comes back as it came.
-    ensures led { IfOk result (λ given. AreLed (map life_of lives.now) (medium_in device) (told_by given.0.items) (medium_in given.1)) }
+    ensures led { IfOk result
+        (λ given. AreLed (map life_of lives.now) (medium_in device) (told_by given.0.items)
+        (medium_in given.1)) }
     ensures no_life { lives.now ≡ [] → IfOk result (λ given. given.1 ≡ device) }
-    ensures disarmed { lives.now ≢ [] → IfOk result (λ given. (fuse_in given.1 ≡ None) × (failure_in given.1 ≡ None)) }
+    ensures disarmed { lives.now ≢ []
+        → IfOk result (λ given. (fuse_in given.1 ≡ None) × (failure_in given.1 ≡ None)) }
 
     // The promise over crashes: on a device that holds the map after some batches, as it does after a format and after
     // other lives, each life keeps a beginning of the batches, with every acknowledged one.
-    ensures promise { (log_sectors : ℕ) (before : List (List Operation)) (opened : CrashState) → IsAfter before opened → Leaves (StandFor log_sectors opened) (disk (medium_in device))
-        → IfOk result (λ given. KeepPromise log_sectors before opened (asked_by lives.now) (told_by given.0.items) (disk (medium_in given.1))) }
+    ensures promise { (log_sectors : ℕ) (before : List (List Operation)) (opened : CrashState)
+        → IsAfter before opened → Leaves (StandFor log_sectors opened) (disk (medium_in device))
+        → IfOk result (λ given. KeepPromise log_sectors before opened (asked_by lives.now)
+        (told_by given.0.items) (disk (medium_in given.1))) }
 {
     let mut replies = match places(&alloc, lives) {
         Ok(replies) => replies,
@@ -92,7 +97,8 @@ fn result_places<A: Allocator + Clone>(
     alloc: &A,
     lives: &[Life<A>],
 ) -> Result<Vec<Built<A>, A>, AllocError>
-    ensures { IfOk result (λ results. (results.items ≡ []) × AllByRecursion (λ life. vec_len life.steps ≤ vec_capacity results) lives.now) }
+    ensures { IfOk result (λ results. (results.items ≡ [])
+        × AllByRecursion (λ life. vec_len life.steps ≤ vec_capacity results) lives.now) }
 {
     let most = most_steps(lives);
     let results = Vec::with_capacity(alloc.clone()?, most)?;
@@ -126,8 +132,10 @@ fn live_each<R: Threads + Sync, A: Allocator + Clone + Send + Sync, B: Allocator
     places: &mut Vec<Vec<Reply<A>, A>, A>,
 ) -> MemDevice<B>
     requires places { HavePlaces lives.now places.old.items }
-    requires results { (results.old.items ≡ []) × AllByRecursion (λ life. vec_len life.steps ≤ vec_capacity results.old) lives.now }
-    ensures led { AreLed (map life_of lives.now) (medium_in device) (told_by places.new.items) (medium_in result) }
+    requires results { (results.old.items ≡ [])
+        × AllByRecursion (λ life. vec_len life.steps ≤ vec_capacity results.old) lives.now }
+    ensures led { AreLed (map life_of lives.now) (medium_in device) (told_by places.new.items)
+        (medium_in result) }
     ensures no_life { lives.now ≡ [] → result ≡ device }
     ensures disarmed { lives.now ≢ [] → (fuse_in result ≡ None) × (failure_in result ≡ None) }
 {
@@ -151,8 +159,10 @@ fn live<R: Threads + Sync, A: Allocator + Clone + Send + Sync, B: Allocator>(
     requires none_built { results.old.items ≡ [] }
     requires places { vec_len life.now.steps ≤ vec_capacity results.old }
     requires room { vec_len life.now.steps + 1 ≤ vec_capacity replies.old }
-    ensures led { LeadsTo (life_of life.now) (medium_in device) (map told_of replies.new.items) (medium_in result) }
-    ensures let_go { (results.new.items ≡ []) × (vec_capacity results.new ≡ vec_capacity results.old) }
+    ensures led { LeadsTo (life_of life.now) (medium_in device) (map told_of replies.new.items)
+        (medium_in result) }
+    ensures let_go { (results.new.items ≡ [])
+        × (vec_capacity results.new ≡ vec_capacity results.old) }
     ensures disarmed { (fuse_in result ≡ None) × (failure_in result ≡ None) }
 {
     let mut device = device;
@@ -195,7 +205,8 @@ pub fn open_and_make<R: Threads + Sync, A: Allocator + Clone + Send + Sync, D: D
     requires none_built { results.old.items ≡ [] }
     requires places { length steps.now ≤ vec_capacity results.old }
     requires room { length steps.now + 1 ≤ vec_capacity replies.old }
-    ensures led { IsLed (D.medium device) (map asked_of steps.now) (map told_of replies.new.items) (D.medium result) }
+    ensures led { IsLed (D.medium device) (map asked_of steps.now) (map told_of replies.new.items)
+        (D.medium result) }
     ensures same_places { vec_capacity results.new ≡ vec_capacity results.old }
 {
     match open(alloc, device) {
@@ -219,7 +230,8 @@ pub fn open<D: Device, A: Allocator + Clone>(
     device: D,
 ) -> Result<Store<D, A>, (Refusal, D)>
     requires tells { IsTrue (D.medium device).lasting.tells }
-    ensures { MatchResult result (λ s. BeginsOn (D.medium device) s) (λ e. FailsOn (D.medium device) e.0 (D.medium e.1)) }
+    ensures { MatchResult result (λ s. BeginsOn (D.medium device) s)
+        (λ e. FailsOn (D.medium device) e.0 (D.medium e.1)) }
 {
     match alloc.clone() {
         Ok(alloc) => Store::open(alloc, device, CACHE_BLOCKS),
@@ -230,7 +242,8 @@ pub fn open<D: Device, A: Allocator + Clone>(
 // Each step is answered that the store is stopped.
 fn refuse_each<A: Allocator>(steps: &[Step<A>], replies: &mut Vec<Reply<A>, A>)
     requires room { vec_len replies.old + length steps.now ≤ vec_capacity replies.old }
-    ensures { map told_of replies.new.items ≡ map told_of replies.old.items ++ told_stopped (map asked_of steps.now) }
+    ensures { map told_of replies.new.items ≡ map told_of replies.old.items
+        ++ told_stopped (map asked_of steps.now) }
 {
     for _step in steps {
         replies.push_reserved(Reply::Refused(Refusal::Stopped));

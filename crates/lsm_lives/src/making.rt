@@ -25,8 +25,10 @@ pub(crate) fn make<R: Threads + Sync, D: Device, A: Allocator + Clone + Send + S
     step: &Step<A>,
 ) -> Reply<A>
     requires room { vec_len results.old < vec_capacity results.old }
-    ensures makes { Makes results.old.items store.old (asked_of step.now) (told_of result) results.new.items store.new }
-    ensures places { (vec_capacity results.new ≡ vec_capacity results.old) × (vec_len results.new ≤ vec_len results.old + 1) }
+    ensures makes { Makes results.old.items store.old (asked_of step.now)
+        (told_of result) results.new.items store.new }
+    ensures places { (vec_capacity results.new ≡ vec_capacity results.old)
+        × (vec_len results.new ≤ vec_len results.old + 1) }
 {
     match step {
         Step::Call(call) => serve(store, call),
@@ -42,8 +44,10 @@ fn make_work<R: Threads + Sync, D: Device, A: Allocator + Clone + Send + Sync>(
     work: &Work,
 ) -> Reply<A>
     requires room { vec_len results.old < vec_capacity results.old }
-    ensures makes { Makes results.old.items store.old (asked_of_work work.now) (told_of result) results.new.items store.new }
-    ensures places { (vec_capacity results.new ≡ vec_capacity results.old) × (vec_len results.new ≤ vec_len results.old + 1) }
+    ensures makes { Makes results.old.items store.old (asked_of_work work.now)
+        (told_of result) results.new.items store.new }
+    ensures places { (vec_capacity results.new ≡ vec_capacity results.old)
+        × (vec_len results.new ≤ vec_len results.old + 1) }
 {
     match work {
         Work::Take => taken(store.job_take()),
@@ -67,8 +71,10 @@ fn build<R: Threads + Sync, D: Device, A: Allocator + Clone + Send + Sync>(
     parts: u64,
 ) -> Reply<A>
     requires room { vec_len results.old < vec_capacity results.old }
-    ensures makes { Makes results.old.items store.now (Build job parts) (told_of result) results.new.items store.now }
-    ensures places { (vec_capacity results.new ≡ vec_capacity results.old) × (vec_len results.new ≤ vec_len results.old + 1) }
+    ensures makes { Makes results.old.items store.now (Build job parts)
+        (told_of result) results.new.items store.now }
+    ensures places { (vec_capacity results.new ≡ vec_capacity results.old)
+        × (vec_len results.new ≤ vec_len results.old + 1) }
 {
     match built(rt, alloc, store, job, parts) {
         Ok(built) => {
@@ -107,7 +113,8 @@ fn accept<D: Device, A: Allocator + Clone>(
     job: u64,
     number: u64,
 ) -> Result<(), Refusal>
-    ensures { Works store.old (Accept job (result_of number results.now)) (reply_by (λ _. Done) result) store.new }
+    ensures { Works store.old (Accept job (result_of number results.now))
+        (reply_by (λ _. Done) result) store.new }
 {
     match numbered(results, number) {
         Some(built) => store.job_accept(job, built),

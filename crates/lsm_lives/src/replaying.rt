@@ -22,7 +22,9 @@ pub fn replay<R: Threads + Sync, D: Device, A: Allocator + Clone + Send + Sync>(
     store: &mut Store<D, A>,
     steps: &[Step<A>],
 ) -> Result<Vec<Reply<A>, A>, Refusal>
-    ensures replays { IfOk result (λ replies. MakesEach [] store.old (map asked_of steps.now) (map told_of replies.items) store.new) }
+    ensures replays { IfOk result
+        (λ replies. MakesEach [] store.old (map asked_of steps.now) (map told_of replies.items)
+        store.new) }
     ensures refused { IfErr result (λ refusal. refusal ≡ NoMemory) }
     ensures nothing_done { OnErr result (store.new ≡ store.old) }
 {
@@ -45,7 +47,8 @@ pub(crate) fn make_each<R: Threads + Sync, D: Device, A: Allocator + Clone + Sen
     requires places { length steps.now ≤ vec_capacity results.old }
     requires room { vec_len replies.old + length steps.now ≤ vec_capacity replies.old }
     ensures same_places { vec_capacity results.new ≡ vec_capacity results.old }
-    ensures adds { AddsReplies store.old (map asked_of steps.now) (map told_of replies.old.items) (map told_of replies.new.items) store.new }
+    ensures adds { AddsReplies store.old (map asked_of steps.now) (map told_of replies.old.items)
+        (map told_of replies.new.items) store.new }
 {
     for step in steps {
         let reply = make(rt, alloc, store, results, step);

@@ -12,7 +12,8 @@ use std::alloc::Allocator;
 
 /// Makes a call of the store. What the store refuses is a reply.
 pub fn serve<D: Device, A: Allocator + Clone>(store: &mut Store<D, A>, call: &Call<A>) -> Reply<A>
-    ensures serves { Serves store.old (call_of call.now) (reply_in (call_of call.now) store.new.state (reply_of result)) store.new }
+    ensures serves { Serves store.old (call_of call.now)
+        (reply_in (call_of call.now) store.new.state (reply_of result)) store.new }
     ensures told { told_of result ≡ Replied (reply_of result) }
 {
     match call {

@@ -28,14 +28,22 @@ pub fn lives_from_format<R: Threads + Sync>(
 ) -> Result<(Vec<Vec<Reply>>, MemDevice), Refusal>
     // Ring 1, in the words of calls, replies, batches and maps: each life begins with the map after a beginning of the accepted
     // batches, with every acknowledged one, and each reply to a call is one that the map allows.
-    ensures batches { IfOk result (λ answer. KeepsBatches log_sectors [] formatted (acts_by given.now) (replies_by answer.0.items)) }
+    ensures batches { IfOk result
+        (λ answer. KeepsBatches log_sectors [] formatted (acts_by given.now)
+        (replies_by answer.0.items)) }
 
     // Ring 2: the device at the end holds the map that is kept; and the replies come of the crashes and faults of just this device.
-    ensures device { IfOk result (λ answer. KeepsBatchesOn log_sectors [] formatted (acts_by given.now) (replies_by answer.0.items) (disk (medium_in answer.1))) }
-    ensures led { IfOk result (λ answer. AreLedOn sectors log_sectors formatted (map life_of given.now) (told_by answer.0.items) (medium_in answer.1)) }
+    ensures device { IfOk result
+        (λ answer. KeepsBatchesOn log_sectors [] formatted (acts_by given.now)
+        (replies_by answer.0.items) (disk (medium_in answer.1))) }
+    ensures led { IfOk result
+        (λ answer. AreLedOn sectors log_sectors formatted (map life_of given.now)
+        (told_by answer.0.items) (medium_in answer.1)) }
 
     // Ring 3: all that, and the replies to pieces of work are those of the jobs.
-    ensures promise { IfOk result (λ answer. KeepPromise log_sectors [] formatted (asked_by given.now) (told_by answer.0.items) (disk (medium_in answer.1))) }
+    ensures promise { IfOk result
+        (λ answer. KeepPromise log_sectors [] formatted (asked_by given.now)
+        (told_by answer.0.items) (disk (medium_in answer.1))) }
 {
     let device = MemDevice::new(alloc, sectors)?;
     let device = match format(alloc, device, log_sectors) {

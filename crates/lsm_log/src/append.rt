@@ -62,35 +62,52 @@ impl Log {
 
         // Where the log is open on this disk, a crash at any moment leaves all durable batches, and of the others and
         // this one a prefix.
-        ensures any_moment { let old = disk (D.medium device.old) in IsTrue (D.medium device.old).lasting.tells → IsOpen self.old (disk (D.medium device.old)) → EachSince
-            (Leaves (λ image. IsBetween (batches_in self.old old.stands) (batches_in self.old (seen old) ++ batch.now ∷ []) (batches_in self.old image)))
+        ensures any_moment { let old = disk (D.medium device.old) in IsTrue
+            (D.medium device.old).lasting.tells → IsOpen self.old (disk (D.medium device.old))
+            → EachSince
+            (Leaves (λ image. IsBetween (batches_in self.old old.stands)
+            (batches_in self.old (seen old) ++ batch.now ∷ []) (batches_in self.old image)))
             (D.medium device.old).history (D.medium device.new).history }
 
         // Nothing but sectors of the log's epoch is written, and only within the region.
-        ensures written { IsTrue (D.medium device.old).lasting.tells → IsOpen self.old (disk (D.medium device.old)) → EachSince (IsGrownBy self.old (disk (D.medium device.old)))
+        ensures written { IsTrue (D.medium device.old).lasting.tells
+            → IsOpen self.old (disk (D.medium device.old))
+            → EachSince (IsGrownBy self.old (disk (D.medium device.old)))
             (D.medium device.old).history (D.medium device.new).history }
 
         // Reads return this batch after the others, and the durable batches are the same.
-        ensures open { IsTrue (D.medium device.old).lasting.tells → IsOpen self.old (disk (D.medium device.old)) → OnOk result (IsOpen self.new (disk (D.medium device.new))) }
-        ensures appended { IsTrue (D.medium device.old).lasting.tells → IsOpen self.old (disk (D.medium device.old)) → OnOk result
+        ensures open { IsTrue (D.medium device.old).lasting.tells
+            → IsOpen self.old (disk (D.medium device.old))
+            → OnOk result (IsOpen self.new (disk (D.medium device.new))) }
+        ensures appended { IsTrue (D.medium device.old).lasting.tells
+            → IsOpen self.old (disk (D.medium device.old)) → OnOk result
             (batches_in self.new (seen (disk (D.medium device.new)))
             ≡ batches_in self.old (seen (disk (D.medium device.old))) ++ batch.now ∷ []) }
-        ensures stands { IsTrue (D.medium device.old).lasting.tells → IsOpen self.old (disk (D.medium device.old)) → OnOk result
-            (batches_in self.new (disk (D.medium device.new)).stands ≡ batches_in self.old (disk (D.medium device.old)).stands) }
+        ensures stands { IsTrue (D.medium device.old).lasting.tells
+            → IsOpen self.old (disk (D.medium device.old)) → OnOk result
+            (batches_in self.new (disk (D.medium device.new)).stands
+            ≡ batches_in self.old (disk (D.medium device.old)).stands) }
         ensures takes { OnOk result (TakesBatch batch.now self.old self.new) }
 
         // `LogFull` exactly where its sectors don't fit; else the only error is `Io`, of a device call that failed, its last.
-        ensures full { (result ≡ Err Refusal.LogFull) ↔ (self.old.sectors < self.old.used + sectors_of batch.now) }
+        ensures full { (result ≡ Err Refusal.LogFull)
+            ↔ (self.old.sectors < self.old.used + sectors_of batch.now) }
         ensures full_changes_nothing { result ≡ Err Refusal.LogFull → device.new ≡ device.old }
         ensures refused { IfErr result (λ refusal. (refusal ≡ Refusal.LogFull)
             ⊎ ((refusal ≡ Refusal.Io) × ((D.medium device.new).calls.last_faulted ≡ true))) }
         ensures err { OnErr result (self.new ≡ self.old) }
-        ensures faults { (D.medium device.new).calls.faults ≡ faults_after (faultless result) (D.medium device.old).calls.faults }
+        ensures faults { (D.medium device.new).calls.faults
+            ≡ faults_after (faultless result) (D.medium device.old).calls.faults }
 
         // Its sectors are written, 128 or fewer, and no other device call is made; `Io` comes from one of these writes.
-        ensures counted { OnOk result ((D.medium device.new).calls ≡ after_writes (sectors_of batch.now) (D.medium device.old).calls) }
-        ensures faulted { result ≡ Err Refusal.Io → WriteFaultsAmong (sectors_of batch.now) (D.medium device.old).calls (D.medium device.new).calls }
-        ensures calls { AtMost 0 (sectors_of batch.now) 0 (D.medium device.old).calls (D.medium device.new).calls }
+        ensures counted { OnOk result
+            ((D.medium device.new).calls
+            ≡ after_writes (sectors_of batch.now) (D.medium device.old).calls) }
+        ensures faulted { result ≡ Err Refusal.Io
+            → WriteFaultsAmong (sectors_of batch.now) (D.medium device.old).calls
+            (D.medium device.new).calls }
+        ensures calls { AtMost 0 (sectors_of batch.now) 0 (D.medium device.old).calls
+            (D.medium device.new).calls }
         ensures few { sectors_of batch.now ≤ 128 }
         ensures same_size { (D.medium device.new).size ≡ (D.medium device.old).size }
         ensures same_lasting { (D.medium device.new).lasting ≡ (D.medium device.old).lasting }
@@ -116,12 +133,19 @@ impl Log {
         requires room { self.now.used + parts ≤ self.now.sectors }
         requires within { self.now.start + self.now.sectors ≤ (D.medium device.old).size }
         ensures moments { IsTrue (D.medium device.old).lasting.tells → EachSince
-            (HasSomeOf (disk (D.medium device.old)) (run_at (self.now.start + self.now.used) (batch_sectors self.now.epoch self.now.next batch.now)))
+            (HasSomeOf (disk (D.medium device.old))
+            (run_at (self.now.start + self.now.used)
+            (batch_sectors self.now.epoch self.now.next batch.now)))
             (D.medium device.old).history (D.medium device.new).history }
         ensures whole { IsTrue (D.medium device.old).lasting.tells → OnOk result
-            (disk (D.medium device.new) ≡ grown (run_at (self.now.start + self.now.used) (batch_sectors self.now.epoch self.now.next batch.now)) (disk (D.medium device.old))) }
-        ensures counted { OnOk result ((D.medium device.new).calls ≡ after_writes parts (D.medium device.old).calls) }
-        ensures faulted { OnErr result (WriteFaultsAmong parts (D.medium device.old).calls (D.medium device.new).calls) }
+            (disk (D.medium device.new)
+            ≡ grown (run_at (self.now.start + self.now.used)
+            (batch_sectors self.now.epoch self.now.next batch.now))
+            (disk (D.medium device.old))) }
+        ensures counted { OnOk result
+            ((D.medium device.new).calls ≡ after_writes parts (D.medium device.old).calls) }
+        ensures faulted { OnErr result
+            (WriteFaultsAmong parts (D.medium device.old).calls (D.medium device.new).calls) }
         ensures same_size { (D.medium device.new).size ≡ (D.medium device.old).size }
         ensures same_lasting { (D.medium device.new).lasting ≡ (D.medium device.old).lasting }
     {
@@ -145,12 +169,19 @@ impl Log {
         requires room { self.now.used + parts ≤ self.now.sectors }
         requires within { self.now.start + self.now.sectors ≤ (D.medium device.old).size }
         ensures moments { IsTrue (D.medium device.old).lasting.tells → EachSince
-            (HasSomeOf (disk (D.medium device.old)) (run_at (self.now.start + self.now.used) (batch_sectors self.now.epoch self.now.next batch.now)))
+            (HasSomeOf (disk (D.medium device.old))
+            (run_at (self.now.start + self.now.used)
+            (batch_sectors self.now.epoch self.now.next batch.now)))
             (D.medium device.old).history (D.medium device.new).history }
         ensures whole { IsTrue (D.medium device.old).lasting.tells → OnOk result
-            (disk (D.medium device.new) ≡ grown (run_at (self.now.start + self.now.used) (batch_sectors self.now.epoch self.now.next batch.now)) (disk (D.medium device.old))) }
-        ensures counted { OnOk result ((D.medium device.new).calls ≡ after_writes parts (D.medium device.old).calls) }
-        ensures faulted { OnErr result (WriteFaultsAmong parts (D.medium device.old).calls (D.medium device.new).calls) }
+            (disk (D.medium device.new)
+            ≡ grown (run_at (self.now.start + self.now.used)
+            (batch_sectors self.now.epoch self.now.next batch.now))
+            (disk (D.medium device.old))) }
+        ensures counted { OnOk result
+            ((D.medium device.new).calls ≡ after_writes parts (D.medium device.old).calls) }
+        ensures faulted { OnErr result
+            (WriteFaultsAmong parts (D.medium device.old).calls (D.medium device.new).calls) }
         ensures same_size { (D.medium device.new).size ≡ (D.medium device.old).size }
         ensures same_lasting { (D.medium device.new).lasting ≡ (D.medium device.old).lasting }
     {
@@ -177,7 +208,8 @@ impl Log {
         requires parts { parts ≡ sectors_of batch.now }
         requires within { from + count ≤ parts }
         requires few { count ≤ 16 }
-        ensures { pieces count run.new ≡ take count (drop from (batch_sectors self.now.epoch self.now.next batch.now)) }
+        ensures { pieces count run.new
+            ≡ take count (drop from (batch_sectors self.now.epoch self.now.next batch.now)) }
     {
         let text = batch.text();
         for i in 0..count {
@@ -192,7 +224,14 @@ impl Log {
         requires below { part < parts }
         requires few { parts ≤ 128 }
         requires some { 480 * part < length text.now }
-        ensures { result ≡ log_sector (record { epoch = self.now.epoch; batch = self.now.next; part = part; parts = parts; payload = take 480 (drop (480 * part) text.now) }) }
+        ensures { result ≡ log_sector
+            (record {
+              epoch = self.now.epoch;
+              batch = self.now.next;
+              part = part;
+              parts = parts;
+              payload = take 480 (drop (480 * part) text.now);
+            }) }
     {
         let from = PAYLOAD * part as usize;
         let to = text.len().min(from + PAYLOAD);

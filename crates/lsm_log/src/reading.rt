@@ -24,7 +24,8 @@ const RUN_BYTES: usize = 8_192;
 
 impl<A: Allocator + Clone> ReadBatches<A> {
     fn is_awaited(&self, sector: &LogSector) -> bool
-        ensures { result ≡ is_awaited_part self.now.epoch self.now.number self.now.part self.now.parts (lent_part sector.now) }
+        ensures { result ≡ is_awaited_part self.now.epoch self.now.number self.now.part
+            self.now.parts (lent_part sector.now) }
     {
         sector.epoch == self.epoch
             && (sector.batch == self.number
@@ -33,7 +34,9 @@ impl<A: Allocator + Clone> ReadBatches<A> {
 
     // No batch is read yet, and the first part of the first batch is awaited.
     fn new(alloc: &A, epoch: u64, first: u64) -> Result<ReadBatches<A>, AllocError>
-        ensures begins { IfOk result (λ g. (sectors : List (List ℕ)) → (batches_with g sectors ≡ replay_of epoch first sectors)
+        ensures begins { IfOk result
+            (λ g. (sectors : List (List ℕ))
+            → (batches_with g sectors ≡ replay_of epoch first sectors)
             × (awaited_in g sectors ≡ awaited epoch first sectors)) }
         ensures first { IfOk result (λ g. g.first ≡ first) }
     {
@@ -89,7 +92,9 @@ impl<A: Allocator + Clone> ReadBatches<A> {
 
     // Takes sectors one after the other, up to the first that is not the awaited one.
     fn take_run(&mut self, alloc: &A, bytes: &[u8]) -> Result<bool, Refusal>
-        ensures taken { IfOk result (λ taken. HaveTaken taken (pieces (length bytes.now / 512) bytes.now) self.old self.new) }
+        ensures taken { IfOk result
+            (λ taken. HaveTaken taken (pieces (length bytes.now / 512) bytes.now) self.old
+            self.new) }
         ensures same_first { self.new.first ≡ self.old.first }
         ensures refused { IfErr result (λ refusal. refusal ≡ Refusal.NoMemory) }
     {
@@ -112,16 +117,20 @@ impl<A: Allocator + Clone> ReadBatches<A> {
     ) -> Result<(), Refusal>
         requires { start + sectors ≤ (D.medium device.old).size }
         ensures read { IsTrue (D.medium device.old).lasting.tells → OnOk result
-            (self.new.batches.items ≡ batches_with self.old (area start sectors (seen (disk (D.medium device.old))))) }
+            (self.new.batches.items
+            ≡ batches_with self.old (area start sectors (seen (disk (D.medium device.old))))) }
         ensures same_first { self.new.first ≡ self.old.first }
         ensures refused { IfErr result (λ refusal. (refusal ≡ Refusal.NoMemory)
             ⊎ ((refusal ≡ Refusal.Io) × ((D.medium device.new).calls.last_faulted ≡ true))) }
-        ensures faults { (D.medium device.new).calls.faults ≡ faults_after (faultless result) (D.medium device.old).calls.faults }
+        ensures faults { (D.medium device.new).calls.faults
+            ≡ faults_after (faultless result) (D.medium device.old).calls.faults }
         ensures calls { AtMost sectors 0 0 (D.medium device.old).calls (D.medium device.new).calls }
         ensures reads { IsTrue (D.medium device.old).lasting.tells
-            → AtMost (awaited_in self.old (area start sectors (seen (disk (D.medium device.old)))) + 1) 0 0
+            → AtMost (awaited_in self.old (area start sectors (seen (disk (D.medium device.old))))
+            + 1) 0 0
             (D.medium device.old).calls (D.medium device.new).calls }
-        ensures unchanged { IsTrue (D.medium device.old).lasting.tells → (D.medium device.new).history ≡ (D.medium device.old).history }
+        ensures unchanged { IsTrue (D.medium device.old).lasting.tells
+            → (D.medium device.new).history ≡ (D.medium device.old).history }
         ensures same_size { (D.medium device.new).size ≡ (D.medium device.old).size }
         ensures same_lasting { (D.medium device.new).lasting ≡ (D.medium device.old).lasting }
     {
@@ -151,22 +160,27 @@ pub fn replay<D: Device, A: Allocator + Clone>(
 ) -> Result<Vec<Batch<A>, A>, Refusal>
     requires { start + sectors ≤ (D.medium device.old).size }
     ensures replayed { IsTrue (D.medium device.old).lasting.tells → IfOk result (λ batches.
-        batches.items ≡ replay_of epoch first (area start sectors (seen (disk (D.medium device.old))))) }
+        batches.items ≡ replay_of epoch first
+        (area start sectors (seen (disk (D.medium device.old))))) }
 
     // The last batch has a number that a batch may have.
-    ensures numbers { IfOk result (λ batches. 1 ≤ length batches.items → first + length batches.items ≤ 2 ^ 63 + 1) }
+    ensures numbers { IfOk result
+        (λ batches. 1 ≤ length batches.items → first + length batches.items ≤ 2 ^ 63 + 1) }
 
     // It fails only for want of memory, and for a read that failed, its last call.
     ensures refused { IfErr result (λ refusal. (refusal ≡ Refusal.NoMemory)
         ⊎ ((refusal ≡ Refusal.Io) × ((D.medium device.new).calls.last_faulted ≡ true))) }
-    ensures faults { (D.medium device.new).calls.faults ≡ faults_after (faultless result) (D.medium device.old).calls.faults }
+    ensures faults { (D.medium device.new).calls.faults
+        ≡ faults_after (faultless result) (D.medium device.old).calls.faults }
 
     // It reads the awaited sectors and at most one more, and nothing else is done to the device.
     ensures calls { AtMost sectors 0 0 (D.medium device.old).calls (D.medium device.new).calls }
     ensures reads { IsTrue (D.medium device.old).lasting.tells
-        → AtMost (awaited epoch first (area start sectors (seen (disk (D.medium device.old)))) + 1) 0 0
+        → AtMost (awaited epoch first (area start sectors (seen (disk (D.medium device.old)))) + 1)
+        0 0
         (D.medium device.old).calls (D.medium device.new).calls }
-    ensures unchanged { IsTrue (D.medium device.old).lasting.tells → (D.medium device.new).history ≡ (D.medium device.old).history }
+    ensures unchanged { IsTrue (D.medium device.old).lasting.tells
+        → (D.medium device.new).history ≡ (D.medium device.old).history }
     ensures same_size { (D.medium device.new).size ≡ (D.medium device.old).size }
     ensures same_lasting { (D.medium device.new).lasting ≡ (D.medium device.old).lasting }
 {

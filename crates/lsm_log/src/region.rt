@@ -16,7 +16,8 @@ impl Log {
     /// there, and nothing pends. Epoch and first number are at least 1, the epoch at most 2^63, the number one more.
     pub fn new(start: u32, sectors: u32, epoch: u64, first: u64) -> Log
         requires { start + sectors < 2 ^ 32 }
-        ensures open { AreNumbers epoch first 0 → (d : Disk) → IsFree start sectors epoch d → IsOpen result d }
+        ensures open { AreNumbers epoch first 0 → (d : Disk) → IsFree start sectors epoch d
+            → IsOpen result d }
         ensures none { (d : Disk) → IsFree start sectors epoch d → batches_in result (seen d) ≡ [] }
         ensures region { (result.start ≡ start) × (result.sectors ≡ sectors) }
         ensures numbers { (result.epoch ≡ epoch) × (result.first ≡ first) × (result.next ≡ first) }
@@ -79,12 +80,16 @@ impl Log {
     pub fn laws(&self)
         // A crash leaves all durable batches, and of the others a prefix.
         ensures crash { (d : Disk) → IsOpen self.now d →
-            Leaves (λ image. IsBetween (batches_in self.now d.stands) (batches_in self.now (seen d)) (batches_in self.now image)) d }
+            Leaves (λ image. IsBetween (batches_in self.now d.stands) (batches_in self.now (seen d))
+            (batches_in self.now image)) d }
 
         // The log counts what reads return.
-        ensures next { (d : Disk) → IsOpen self.now d → self.now.next ≡ self.now.first + length (batches_in self.now (seen d)) }
-        ensures used { (d : Disk) → IsOpen self.now d → self.now.used ≡ sum_by sectors_of (batches_in self.now (seen d)) }
-        ensures whole { (d : Disk) → IsOpen self.now d → All IsBatch (batches_in self.now (seen d)) }
+        ensures next { (d : Disk) → IsOpen self.now d
+            → self.now.next ≡ self.now.first + length (batches_in self.now (seen d)) }
+        ensures used { (d : Disk) → IsOpen self.now d
+            → self.now.used ≡ sum_by sectors_of (batches_in self.now (seen d)) }
+        ensures whole { (d : Disk) → IsOpen self.now d
+            → All IsBatch (batches_in self.now (seen d)) }
 
         // A sync makes all batches durable; the log stays open.
         ensures sync { (d : Disk) → IsOpen self.now d → IsOpen self.now (synced d) }
@@ -92,18 +97,23 @@ impl Log {
         // Writes outside the region change nothing.
         ensures elsewhere { (d : Disk) → IsOpen self.now d
             → (ws : List Write) → All (IsOutside self.now.start self.now.sectors) ws
-            → IsOpen self.now (grown ws d) × (batches_in self.now (seen (grown ws d)) ≡ batches_in self.now (seen d)) }
+            → IsOpen self.now (grown ws d)
+            × (batches_in self.now (seen (grown ws d)) ≡ batches_in self.now (seen d)) }
 
         // It stays open while its region stays as it was, whatever became of the rest of the device.
-        ensures same_region { (old new : Disk) → IsOpen self.now old → length new.stands ≡ length old.stands
-            → disk_in self.now.start self.now.sectors new ≡ disk_in self.now.start self.now.sectors old
+        ensures same_region { (old new : Disk) → IsOpen self.now old
+            → length new.stands ≡ length old.stands
+            → disk_in self.now.start self.now.sectors new
+            ≡ disk_in self.now.start self.now.sectors old
             → IsOpen self.now new
             × (batches_in self.now (seen new) ≡ batches_in self.now (seen old))
             × (batches_in self.now new.stands ≡ batches_in self.now old.stands) }
 
         // So it does where its region was synced, and then all its batches are durable.
-        ensures synced_region { (old new : Disk) → IsOpen self.now old → length new.stands ≡ length old.stands
-            → disk_in self.now.start self.now.sectors new ≡ synced (disk_in self.now.start self.now.sectors old)
+        ensures synced_region { (old new : Disk) → IsOpen self.now old
+            → length new.stands ≡ length old.stands
+            → disk_in self.now.start self.now.sectors new
+            ≡ synced (disk_in self.now.start self.now.sectors old)
             → IsOpen self.now new
             × (batches_in self.now (seen new) ≡ batches_in self.now (seen old))
             × (batches_in self.now new.stands ≡ batches_in self.now (seen old)) }
@@ -114,19 +124,24 @@ impl Log {
 /// every epoch above those of its sectors, and a sector of zeros is of none.
 pub fn epoch_laws()
     ensures free { (generation from count start sectors epoch : ℕ) (d : Disk)
-        → HasNoneAbove generation (area from count d.stands) → from ≤ start → start + sectors ≤ from + count
-        → generation < epoch → (disk_in start sectors d).pending ≡ [] → start + sectors ≤ length d.stands
+        → HasNoneAbove generation (area from count d.stands) → from ≤ start
+        → start + sectors ≤ from + count
+        → generation < epoch → (disk_in start sectors d).pending ≡ []
+        → start + sectors ≤ length d.stands
         → IsFree start sectors epoch d }
     ensures blank { (generation : ℕ) → is_above generation (replicate 512 0) ≡ false }
-    ensures later { (low high : ℕ) (sectors : List (List ℕ)) → low ≤ high → HasNoneAbove low sectors → HasNoneAbove high sectors }
+    ensures later { (low high : ℕ) (sectors : List (List ℕ)) → low ≤ high → HasNoneAbove low sectors
+        → HasNoneAbove high sectors }
 
     // Crashes and syncs bring no other epoch, nor do writes elsewhere, nor a log whose epoch is not above.
     ensures crash { (generation from count : ℕ) (d : Disk) → NoneAboveIn generation from count d
         → Leaves (λ image. HasNoneAbove generation (area from count image)) d }
     ensures sync { (generation from count : ℕ) (d : Disk) → NoneAboveIn generation from count d
         → NoneAboveIn generation from count (synced d) }
-    ensures elsewhere { (generation from count : ℕ) (d : Disk) (ws : List Write) → NoneAboveIn generation from count d
+    ensures elsewhere { (generation from count : ℕ) (d : Disk) (ws : List Write)
+        → NoneAboveIn generation from count d
         → All (IsOutside from count) ws → NoneAboveIn generation from count (grown ws d) }
-    ensures by_log { (generation from count : ℕ) (d new : Disk) (log : LogOf) → NoneAboveIn generation from count d
+    ensures by_log { (generation from count : ℕ) (d new : Disk) (log : LogOf)
+        → NoneAboveIn generation from count d
         → log.epoch ≤ generation → IsGrownBy log d new → NoneAboveIn generation from count new }
 {}

@@ -70,7 +70,8 @@ pub fn runs_join()
 pub fn crash_states_go_on()
     ensures before { (m : Machine) (step : Step) (left : CrashState)
         → Contains (may_leave m.state) left → Contains (left_in_step m step) left }
-    ensures after { (m : Machine) (step : Step) (reply : Reply) (left : CrashState) → asks_guards step ≡ false
+    ensures after { (m : Machine) (step : Step) (reply : Reply) (left : CrashState)
+        → asks_guards step ≡ false
         → AdmitsStep m step reply → Contains (may_leave (next_machine m step reply).state) left
         → Contains (left_in_step m step) left }
     ensures guarded { (m : Machine) (step : Step) (reply : Reply) (left : CrashState)

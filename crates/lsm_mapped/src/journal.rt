@@ -55,9 +55,12 @@ impl Journal {
     pub(crate) fn sync(&mut self, bytes: &mut [u8]) -> bool
         requires { Fills self.old bytes.old }
         ensures fills { Fills self.new bytes.new }
-        ensures room { IsTrue result ↔ (length (text_of (with_sync (records_in self.old bytes.old))) ≤ length bytes.old) }
-        ensures synced { IsTrue result → records_in self.new bytes.new ≡ with_sync (records_in self.old bytes.old) }
-        ensures refused { IsFalse result → records_in self.new bytes.new ≡ records_in self.old bytes.old }
+        ensures room { IsTrue result
+            ↔ (length (text_of (with_sync (records_in self.old bytes.old))) ≤ length bytes.old) }
+        ensures synced { IsTrue result
+            → records_in self.new bytes.new ≡ with_sync (records_in self.old bytes.old) }
+        ensures refused { IsFalse result
+            → records_in self.new bytes.new ≡ records_in self.old bytes.old }
         ensures same_wrote { self.new.wrote ≡ self.old.wrote }
         ensures same_room { length bytes.new ≡ length bytes.old }
     {
@@ -79,9 +82,14 @@ impl Journal {
     pub(crate) fn write(&mut self, bytes: &mut [u8], at: u32, sector: &[u8; 512]) -> bool
         requires { Fills self.old bytes.old }
         ensures fills { Fills self.new bytes.new }
-        ensures room { IsTrue result ↔ (length (text_of (with_write at sector.now (records_in self.old bytes.old))) ≤ length bytes.old) }
-        ensures written { IsTrue result → records_in self.new bytes.new ≡ with_write at sector.now (records_in self.old bytes.old) }
-        ensures refused { IsFalse result → records_in self.new bytes.new ≡ records_in self.old bytes.old }
+        ensures room { IsTrue result
+            ↔ (length (text_of (with_write at sector.now (records_in self.old bytes.old)))
+            ≤ length bytes.old) }
+        ensures written { IsTrue result
+            → records_in self.new bytes.new
+            ≡ with_write at sector.now (records_in self.old bytes.old) }
+        ensures refused { IsFalse result
+            → records_in self.new bytes.new ≡ records_in self.old bytes.old }
         ensures wrote { self.new.wrote ≡ true }
         ensures same_room { length bytes.new ≡ length bytes.old }
     {
@@ -100,8 +108,11 @@ impl Journal {
         requires goes_on { (0 < self.old.count) × (self.old.count < 4294967295) }
         ensures fills { Fills self.new bytes.new }
         ensures room { IsTrue result ↔ (self.old.used + 512 ≤ length bytes.old) }
-        ensures written { IsTrue result → records_in self.new bytes.new ≡ front (records_in self.old bytes.old) ++ with_sector sector.now (last (records_in self.old bytes.old)) ∷ [] }
-        ensures refused { IsFalse result → records_in self.new bytes.new ≡ records_in self.old bytes.old }
+        ensures written { IsTrue result
+            → records_in self.new bytes.new ≡ front (records_in self.old bytes.old)
+            ++ with_sector sector.now (last (records_in self.old bytes.old)) ∷ [] }
+        ensures refused { IsFalse result
+            → records_in self.new bytes.new ≡ records_in self.old bytes.old }
         ensures wrote { self.new.wrote ≡ true }
         ensures same_room { length bytes.new ≡ length bytes.old }
     {
@@ -121,8 +132,11 @@ impl Journal {
         requires wrote { self.old.wrote ≡ true }
         ensures fills { Fills self.new bytes.new }
         ensures room { IsTrue result ↔ (self.old.used + 520 ≤ length bytes.old) }
-        ensures written { IsTrue result → records_in self.new bytes.new ≡ records_in self.old bytes.old ++ write_record at sector.now ∷ [] }
-        ensures refused { IsFalse result → records_in self.new bytes.new ≡ records_in self.old bytes.old }
+        ensures written { IsTrue result
+            → records_in self.new bytes.new ≡ records_in self.old bytes.old
+            ++ write_record at sector.now ∷ [] }
+        ensures refused { IsFalse result
+            → records_in self.new bytes.new ≡ records_in self.old bytes.old }
         ensures wrote { self.new.wrote ≡ true }
         ensures same_room { length bytes.new ≡ length bytes.old }
     {
@@ -156,7 +170,8 @@ impl Journal {
 // Writes a record after the first `at` bytes.
 fn lay(bytes: &mut [u8], at: usize, first: u32, count: u32, sectors: &[u8])
     requires { at + (8 + length sectors.now) ≤ length bytes.old }
-    ensures { take (at + (8 + length sectors.now)) bytes.new ≡ take at bytes.old ++ ((number_text first ++ number_text count) ++ sectors.now) }
+    ensures { take (at + (8 + length sectors.now)) bytes.new
+        ≡ take at bytes.old ++ ((number_text first ++ number_text count) ++ sectors.now) }
 {
     put_number(bytes, at, first);
     put_number(bytes, at + 4, count);
@@ -167,7 +182,8 @@ fn lay(bytes: &mut [u8], at: usize, first: u32, count: u32, sectors: &[u8])
 fn lay_more(bytes: &mut [u8], used: usize, head: usize, count: u32, sector: &[u8])
     requires room { used + length sector.now ≤ length bytes.old }
     requires head { head + 8 ≤ used }
-    ensures { take (used + length sector.now) bytes.new ≡ take (head + 4) bytes.old ++ (number_text count ++ (drop (head + 8) (take used bytes.old) ++ sector.now)) }
+    ensures { take (used + length sector.now) bytes.new ≡ take (head + 4) bytes.old
+        ++ (number_text count ++ (drop (head + 8) (take used bytes.old) ++ sector.now)) }
 {
     put(bytes, used, sector);
     put_number(bytes, head + 4, count);

@@ -41,7 +41,8 @@ impl<'a> MappedDevice<'a> {
         ghost past: { List Disk }
         requires { IsPast sectors image.now past }
         ensures size { (⟦<MappedDevice<'a> as Device>⟧.medium result).size ≡ sectors }
-        ensures medium { ⟦<MappedDevice<'a> as Device>⟧.medium result ≡ mapped sectors past journal.entry.ghost_name }
+        ensures medium { ⟦<MappedDevice<'a> as Device>⟧.medium result
+            ≡ mapped sectors past journal.entry.ghost_name }
         ensures records { records_on result ≡ [] }
         ensures image { result.image ≡ image.entry }
         ensures unwritten { result.journal.wrote ≡ false }
@@ -59,13 +60,18 @@ impl<'a> MappedDevice<'a> {
 
     /// How many bytes of the journal are filled: with the text of its records, and nothing else.
     pub fn used(&self) -> usize
-        ensures filled { IsFilledWith (⟦<MappedDevice<'a> as Device>⟧.medium self.now).size result self.now.bytes.now (records_on self.now) }
+        ensures filled { IsFilledWith (⟦<MappedDevice<'a> as Device>⟧.medium self.now).size result
+            self.now.bytes.now (records_on self.now) }
         ensures within { result ≤ length self.now.bytes.now }
 
         // Its history is the disks before, and those that it has had once the records are made: one for each write and each sync.
-        ensures lasting { (⟦<MappedDevice<'a> as Device>⟧.medium self.now).lasting ≡ lasting_of self.now.bytes.ghost_name (past_on self.now) }
-        ensures made { (⟦<MappedDevice<'a> as Device>⟧.medium self.now).history ≡ after_records (records_on self.now) (past_on self.now) }
-        ensures many { length (⟦<MappedDevice<'a> as Device>⟧.medium self.now).history ≡ length (past_on self.now) + writes_in (records_on self.now) + syncs_in (records_on self.now) }
+        ensures lasting { (⟦<MappedDevice<'a> as Device>⟧.medium self.now).lasting
+            ≡ lasting_of self.now.bytes.ghost_name (past_on self.now) }
+        ensures made { (⟦<MappedDevice<'a> as Device>⟧.medium self.now).history
+            ≡ after_records (records_on self.now) (past_on self.now) }
+        ensures many { length (⟦<MappedDevice<'a> as Device>⟧.medium self.now).history
+            ≡ length (past_on self.now) + writes_in (records_on self.now)
+            + syncs_in (records_on self.now) }
     {
         self.journal.used()
     }
@@ -121,14 +127,17 @@ impl<'a> Device for MappedDevice<'a> {
 
     fn read(&mut self, at: u32, out: &mut [u8; 512]) -> Result<(), Fault>
         requires { at < (medium_on self.old).size }
-        ensures bytes { OnOk result (slice_get (seen (disk (medium_on self.old))) at ≡ Some out.new) }
+        ensures bytes { OnOk result
+            (slice_get (seen (disk (medium_on self.old))) at ≡ Some out.new) }
         ensures unchanged { (medium_on self.new).history ≡ (medium_on self.old).history }
-        ensures counted { (medium_on self.new).calls ≡ after_read (is_ok result) (medium_on self.old).calls }
+        ensures counted { (medium_on self.new).calls
+            ≡ after_read (is_ok result) (medium_on self.old).calls }
         ensures same_size { (medium_on self.new).size ≡ (medium_on self.old).size }
         ensures same_lasting { (medium_on self.new).lasting ≡ (medium_on self.old).lasting }
 
         // It answers Ok where no write was tried and the mapping has the sector.
-        ensures answers { IsTrue (is_ok result) ↔ ((self.old.journal.wrote ≡ false) × (512 * at + 512 ≤ length self.old.image.now)) }
+        ensures answers { IsTrue (is_ok result)
+            ↔ ((self.old.journal.wrote ≡ false) × (512 * at + 512 ≤ length self.old.image.now)) }
         ensures same_journal { self.new.journal ≡ self.old.journal }
         ensures same_bytes { self.new.bytes ≡ self.old.bytes }
         ensures same_image { self.new.image ≡ self.old.image }
@@ -140,18 +149,24 @@ impl<'a> Device for MappedDevice<'a> {
 
     fn write(&mut self, at: u32, bytes: &[u8; 512]) -> Result<(), Fault>
         requires { at < (medium_on self.old).size }
-        ensures pends { OnOk result (Becomes (appended (record { at = at; bytes = bytes.now }) (disk (medium_on self.old)))
+        ensures pends { OnOk result
+            (Becomes (appended (record { at = at; bytes = bytes.now }) (disk (medium_on self.old)))
             (medium_on self.old).history (medium_on self.new).history) }
-        ensures may_pend { OnErr result (((medium_on self.new).history ≡ (medium_on self.old).history)
+        ensures may_pend { OnErr result
+            (((medium_on self.new).history ≡ (medium_on self.old).history)
             ⊎ Becomes (appended (record { at = at; bytes = bytes.now }) (disk (medium_on self.old)))
             (medium_on self.old).history (medium_on self.new).history) }
-        ensures counted { (medium_on self.new).calls ≡ after_write (is_ok result) (medium_on self.old).calls }
+        ensures counted { (medium_on self.new).calls
+            ≡ after_write (is_ok result) (medium_on self.old).calls }
         ensures same_size { (medium_on self.new).size ≡ (medium_on self.old).size }
         ensures same_lasting { (medium_on self.new).lasting ≡ (medium_on self.old).lasting }
 
         // It answers Ok where the journal has room, and only then it changes the records, and pends.
-        ensures answers { IsTrue (is_ok result) ↔ (length (text_of (with_write at bytes.now (records_on self.old))) ≤ length self.old.bytes.now) }
-        ensures written { OnOk result (records_on self.new ≡ with_write at bytes.now (records_on self.old)) }
+        ensures answers { IsTrue (is_ok result)
+            ↔ (length (text_of (with_write at bytes.now (records_on self.old)))
+            ≤ length self.old.bytes.now) }
+        ensures written { OnOk result
+            (records_on self.new ≡ with_write at bytes.now (records_on self.old)) }
         ensures refused { OnErr result (records_on self.new ≡ records_on self.old) }
         ensures same_room { length self.new.bytes.now ≡ length self.old.bytes.now }
         ensures same_image { self.new.image ≡ self.old.image }
@@ -165,14 +180,19 @@ impl<'a> Device for MappedDevice<'a> {
     }
 
     fn sync(&mut self) -> Result<(), Fault>
-        ensures stands { OnOk result (Becomes (synced (disk (medium_on self.old))) (medium_on self.old).history (medium_on self.new).history) }
-        ensures unchanged { OnErr result ((medium_on self.new).history ≡ (medium_on self.old).history) }
-        ensures counted { (medium_on self.new).calls ≡ after_sync (is_ok result) (medium_on self.old).calls }
+        ensures stands { OnOk result
+            (Becomes (synced (disk (medium_on self.old))) (medium_on self.old).history
+            (medium_on self.new).history) }
+        ensures unchanged { OnErr result
+            ((medium_on self.new).history ≡ (medium_on self.old).history) }
+        ensures counted { (medium_on self.new).calls
+            ≡ after_sync (is_ok result) (medium_on self.old).calls }
         ensures same_size { (medium_on self.new).size ≡ (medium_on self.old).size }
         ensures same_lasting { (medium_on self.new).lasting ≡ (medium_on self.old).lasting }
 
         // It answers Ok where the journal has room, and only then it changes the records.
-        ensures answers { IsTrue (is_ok result) ↔ (length (text_of (with_sync (records_on self.old))) ≤ length self.old.bytes.now) }
+        ensures answers { IsTrue (is_ok result)
+            ↔ (length (text_of (with_sync (records_on self.old))) ≤ length self.old.bytes.now) }
         ensures recorded { OnOk result (records_on self.new ≡ with_sync (records_on self.old)) }
         ensures refused { OnErr result (records_on self.new ≡ records_on self.old) }
         ensures same_room { length self.new.bytes.now ≡ length self.old.bytes.now }

@@ -90,7 +90,8 @@ impl<'k, A: Allocator + Clone> PageBuilder<'k, A> {
         at: u64,
         limit: u64,
     ) -> Result<PageBuilder<'k, A>, AllocError>
-        ensures { IfOk result (λ builder. builder ≡ gathering at (option_map (λ to. to.now) to.entry) limit) }
+        ensures { IfOk result (λ builder. builder
+            ≡ gathering at (option_map (λ to. to.now) to.entry) limit) }
     {
         Ok(PageBuilder {
             at,
@@ -109,9 +110,14 @@ impl<'k, A: Allocator + Clone> PageBuilder<'k, A> {
         requires { self.old.next ≡ None }
 
         // The final page stays the same: before the call the version is among those that are left, and after it no more.
-        ensures goes_on { IfOk result (λ goes_on. goes_on ≡ true → (newer older : List Version) → IsFirst (shown version.entry) (newer ++ older)
-            → page_with self.new (newer ++ older) ≡ page_with self.old (newer ++ shown version.entry ∷ older)) }
-        ensures ends { IfOk result (λ goes_on. goes_on ≡ false → (newer older : List Version) → IsFirst (shown version.entry) (newer ++ older)
+        ensures goes_on { IfOk result
+            (λ goes_on. goes_on ≡ true → (newer older : List Version)
+            → IsFirst (shown version.entry) (newer ++ older)
+            → page_with self.new (newer ++ older)
+            ≡ page_with self.old (newer ++ shown version.entry ∷ older)) }
+        ensures ends { IfOk result
+            (λ goes_on. goes_on ≡ false → (newer older : List Version)
+            → IsFirst (shown version.entry) (newer ++ older)
             → page_so_far self.new ≡ page_with self.old (newer ++ shown version.entry ∷ older)) }
         ensures none_left_out { IfOk result (λ goes_on. goes_on ≡ true → self.new.next ≡ None) }
     {

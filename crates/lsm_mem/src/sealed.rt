@@ -86,7 +86,8 @@ impl<A: Allocator> Sealed<A> {
         ensures version { option_map shown result ≡ newest key.now at self.now }
 
         // Its value is what the map at `at` has at the key.
-        ensures value { option_and_then (λ v. v.value) (option_map shown result) ≡ finite.get (map_of self.now at) key.now }
+        ensures value { option_and_then (λ v. v.value) (option_map shown result)
+            ≡ finite.get (map_of self.now at) key.now }
     {
         self.mem.get(key, at)
     }
@@ -96,11 +97,15 @@ impl<A: Allocator> Sealed<A> {
     pub fn range(&self, from: &[u8], at: u64) -> Result<Range<'_, A>, AllocError>
     where
         A: Clone,
-        ensures versions { IfOk result (λ range. range ≡ from_key from.now (newest_each at self.now)) }
+        ensures versions { IfOk result
+            (λ range. range ≡ from_key from.now (newest_each at self.now)) }
         ensures ascending { IfOk result (λ range. HaveAscendingKeys range) }
 
         // The puts among them are the pairs of the map at `at` from this key on.
-        ensures pairs { IfOk result (λ range. filter_map put_pair range ≡ filter (λ pair. is_le (byte_order from.now pair.0)) (finite.entries (map_of self.now at))) }
+        ensures pairs { IfOk result
+            (λ range. filter_map put_pair range
+            ≡ filter (λ pair. is_le (byte_order from.now pair.0))
+            (finite.entries (map_of self.now at))) }
     {
         Ok(self.mem.range(from, at)?)
     }

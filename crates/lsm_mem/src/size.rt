@@ -53,14 +53,16 @@ impl MemSize {
         ensures grows { GrowsBy batch.now self result }
 
         // It covers what this size covers with the batch under any number.
-        ensures covers { (number : ℕ) (versions : List Version) → Covers versions self → Covers (with_batch number batch.now versions) result }
+        ensures covers { (number : ℕ) (versions : List Version) → Covers versions self
+            → Covers (with_batch number batch.now versions) result }
     {
         self.with_operations(batch.operations())
     }
 
     fn with_operations(self, operations: Operations<'_>) -> MemSize
         ensures grows { GrowsBy operations.entry self result }
-        ensures covers { (number : ℕ) (versions : List Version) → Covers versions self → Covers (with_batch number operations.entry versions) result }
+        ensures covers { (number : ℕ) (versions : List Version) → Covers versions self
+            → Covers (with_batch number operations.entry versions) result }
     {
         let mut size = self;
         for operation in operations {

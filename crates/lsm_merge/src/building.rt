@@ -112,7 +112,9 @@ fn joined<A: Allocator + Clone>(
 ) -> Result<Vec<Entry<A>, A>, AllocError>
     requires ascending { Ascending borders.now }
     requires len { length parts.items ≡ length borders.now + 1 }
-    requires each { (i : ℕ) (d : _) → i < length parts.items → IfOk (slice_index_or parts.items i d) (λ v. v.items ≡ part_of borders.now (kept_of input.now) i) }
+    requires each { (i : ℕ) (d : _) → i < length parts.items
+        → IfOk (slice_index_or parts.items i d)
+        (λ v. v.items ≡ part_of borders.now (kept_of input.now) i) }
     ensures { IfOk result (λ v. v.items ≡ kept_of input.now) }
 {
     let mut all = Vec::new(alloc);
@@ -171,7 +173,8 @@ fn built_of<A: Allocator + Clone>(
     requires divides { IsInput entries.items }
     ensures input { IfOk result (λ b. b.input ≡ arc_value input) }
     ensures divisions { IfOk result (λ b. b.divisions ≡ divisions.items) }
-    ensures tables { IfOk result (λ b. AreTablesAt divisions.items (kept_of (arc_value input)) b.images) }
+    ensures tables { IfOk result
+        (λ b. AreTablesAt divisions.items (kept_of (arc_value input)) b.images) }
 {
     let images = divided(&alloc, entries, &divisions)?;
     let images = Arc::new(alloc, images)?;
@@ -234,7 +237,8 @@ pub fn build_divided<R: Threads + Sync, A: Allocator + Clone + Send + Sync>(
     ensures memory { 1 ≤ parts → parts ≤ 8 → IfErr result (λ refusal. refusal ≡ NoMemory) }
     ensures input { IfOk result (λ b. b.input ≡ arc_value input) }
     ensures divisions { IfOk result (λ b. b.divisions ≡ divisions.items) }
-    ensures tables { IfOk result (λ b. AreTablesAt divisions.items (kept_of (arc_value input)) b.images) }
+    ensures tables { IfOk result
+        (λ b. AreTablesAt divisions.items (kept_of (arc_value input)) b.images) }
 {
     let entries = merge_parts(rt, &alloc, &input, parts, &OpenGate)?;
     Ok(built_of(alloc, input, entries, divisions)?)
@@ -249,7 +253,8 @@ pub fn build_here<A: Allocator + Clone>(
     ensures memory { IfErr result (λ refusal. refusal ≡ NoMemory) }
     ensures input { IfOk result (λ b. b.input ≡ arc_value input) }
     ensures divisions { IfOk result (λ b. b.divisions ≡ divisions.items) }
-    ensures tables { IfOk result (λ b. AreTablesAt divisions.items (kept_of (arc_value input)) b.images) }
+    ensures tables { IfOk result
+        (λ b. AreTablesAt divisions.items (kept_of (arc_value input)) b.images) }
 {
     let entries = whole(alloc.clone()?, &input)?;
     Ok(built_of(alloc, input, entries, divisions)?)

@@ -32,7 +32,8 @@ fn are_same_bytes(bytes: &[u8], others: &[u8]) -> bool
 
 /// Whether both are `None`, or the same bytes.
 fn are_same_values(value: Option<&[u8]>, other: Option<&[u8]>) -> bool
-    ensures { IsTrue result ↔ (option_map (λ v. v.now) value.entry ≡ option_map (λ v. v.now) other.entry) }
+    ensures { IsTrue result
+        ↔ (option_map (λ v. v.now) value.entry ≡ option_map (λ v. v.now) other.entry) }
 {
     match (value, other) {
         (Some(value), Some(other)) => are_same_bytes(value, other),

@@ -36,14 +36,19 @@ impl<A: Allocator> Input<A> {
     pub fn new(runs: Vec<Vec<Entry<A>, A>, A>, cuts: Vec<u64, A>, bottom: bool) -> Input<A>
         requires runs { AreRuns (items_of runs.items) }
         requires cuts { IsCuts cuts.items }
-        ensures { result ≡ record { runs = items_of runs.items; cuts = cuts.items; bottom = bottom } }
+        ensures { result ≡ record
+            { runs = items_of runs.items; cuts = cuts.items; bottom = bottom } }
     {
         Input { runs, cuts, bottom }
     }
 
     /// The runs, the cuts and the flag that it was made of. It takes no memory.
     pub fn into_parts(self) -> (Vec<Vec<Entry<A>, A>, A>, Vec<u64, A>, bool)
-        ensures same { self ≡ record { runs = items_of result.0.items; cuts = result.1.items; bottom = result.2 } }
+        ensures same { self ≡ record {
+          runs = items_of result.0.items;
+          cuts = result.1.items;
+          bottom = result.2;
+        } }
         ensures limits { IsMergeInput self }
     {
         (self.runs, self.cuts, self.bottom)

@@ -30,7 +30,9 @@ fn is_shown(cuts: &[u64], number: u64, above: Option<u64>) -> bool
 /// The number of the version before a place, where it is of the same key.
 fn number_before<A: Allocator>(versions: &[&Entry<A>], i: usize) -> Option<u64>
     requires { i < length versions.now }
-    ensures { (d : Version) → result ≡ number_before (slice_index_or (shown versions.now) i d) (previous (shown versions.now) i d) }
+    ensures { (d : Version) → result
+        ≡ number_before (slice_index_or (shown versions.now) i d)
+        (previous (shown versions.now) i d) }
 {
     if i == 0 {
         return None;
@@ -46,7 +48,9 @@ fn number_before<A: Allocator>(versions: &[&Entry<A>], i: usize) -> Option<u64>
 fn is_newest_at_a_cut<A: Allocator>(versions: &[&Entry<A>], i: usize, cuts: &[u64]) -> bool
     requires ordered { AreOrdered (shown versions.now) }
     requires within { i < length versions.now }
-    ensures { (d : Version) → result ≡ is_newest_at_a_cut cuts.now (shown versions.now) (slice_index_or (shown versions.now) i d) }
+    ensures { (d : Version) → result
+        ≡ is_newest_at_a_cut cuts.now (shown versions.now)
+        (slice_index_or (shown versions.now) i d) }
 {
     is_shown(cuts, versions[i].number(), number_before(versions, i))
 }
@@ -58,7 +62,8 @@ pub(crate) fn newest_at_cuts<'a, A: Allocator>(
     cuts: &[u64],
 ) -> Result<Vec<&'a Entry<A>, A>, AllocError>
     requires { AreOrdered (shown versions.now) }
-    ensures { IfOk result (λ v. shown v.items ≡ filter (is_newest_at_a_cut cuts.now (shown versions.now)) (shown versions.now)) }
+    ensures { IfOk result (λ v. shown v.items
+        ≡ filter (is_newest_at_a_cut cuts.now (shown versions.now)) (shown versions.now)) }
 {
     let mut kept = Vec::with_capacity(alloc, versions.len())?;
     for i in 0..versions.len() {
@@ -81,7 +86,9 @@ fn ends_with_key<A: Allocator>(entries: &[&Entry<A>], entry: &Entry<A>) -> bool
 
 /// Whether it is a delete of a key that none of these later places has, the last of them being the next.
 fn deletes_nothing<A: Allocator>(entry: &Entry<A>, later: &[&Entry<A>]) -> bool
-    ensures { result ≡ (is_none entry.now.value && not (starts_with_key entry.now.key (reverse (shown later.now)))) }
+    ensures { result
+        ≡ (is_none entry.now.value
+        && not (starts_with_key entry.now.key (reverse (shown later.now)))) }
 {
     is_delete(entry) && !ends_with_key(later, entry)
 }
@@ -91,7 +98,8 @@ fn settle<'a, A: Allocator>(
     kept: &mut Vec<&'a Entry<A>, A>,
     entry: &'a Entry<A>,
 ) -> Result<(), AllocError>
-    ensures { OnOk result (reverse (shown kept.new.items) ≡ settled_onto entry.now (reverse (shown kept.old.items))) }
+    ensures { OnOk result (reverse (shown kept.new.items)
+        ≡ settled_onto entry.now (reverse (shown kept.old.items))) }
 {
     if deletes_nothing(entry, kept) {
         return Ok(());

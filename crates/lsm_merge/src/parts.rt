@@ -23,7 +23,9 @@ fn merge<'a, A: Allocator + Clone>(
     to: Option<&[u8]>,
 ) -> Result<Vec<&'a Entry<A>, A>, AllocError>
     requires { AreRuns (items_of runs.now) }
-    ensures { IfOk result (λ v. shown v.items ≡ in_order (within (shown_key from.entry) (shown_key to.entry) (joined (items_of runs.now)))) }
+    ensures { IfOk result (λ v. shown v.items
+        ≡ in_order (within (shown_key from.entry) (shown_key to.entry)
+        (joined (items_of runs.now)))) }
 {
     match runs {
         [] => Ok(Vec::new(alloc.clone()?)),
@@ -44,7 +46,8 @@ pub(crate) fn kept_part<A: Allocator + Clone>(
     from: Option<&[u8]>,
     to: Option<&[u8]>,
 ) -> Result<Vec<Entry<A>, A>, AllocError>
-    ensures { IfOk result (λ v. v.items ≡ within (shown_key from.entry) (shown_key to.entry) (kept_of input.now)) }
+    ensures { IfOk result (λ v. v.items
+        ≡ within (shown_key from.entry) (shown_key to.entry) (kept_of input.now)) }
 {
     let entries = merge(&alloc, input.runs(), from, to)?;
     let kept = keep(&alloc, &entries, input.cuts(), input.is_bottom())?;
@@ -61,7 +64,8 @@ pub fn part<A: Allocator + Clone>(
     from: Option<&[u8]>,
     to: Option<&[u8]>,
 ) -> Result<Vec<Entry<A>, A>, Refusal>
-    ensures value { IfOk result (λ v. v.items ≡ within (shown_key from.entry) (shown_key to.entry) (kept_of input.now)) }
+    ensures value { IfOk result
+        (λ v. v.items ≡ within (shown_key from.entry) (shown_key to.entry) (kept_of input.now)) }
     ensures memory { IfErr result (λ refusal. refusal ≡ Refusal.NoMemory) }
 {
     Ok(kept_part(alloc, input, from, to)?)

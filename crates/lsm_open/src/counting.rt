@@ -53,7 +53,8 @@ fn with_entry(count: Count, version: &VersionRef<'_>) -> Count
     requires among { count.deletes ≤ count.entries }
     ensures entries { result.entries ≡ count.entries + 1 }
     ensures still_among { result.deletes ≤ result.entries }
-    ensures deletes { result.deletes ≡ count.deletes + one_if_none (option_map (λ value. value.now) version.now.value) }
+    ensures deletes { result.deletes
+        ≡ count.deletes + one_if_none (option_map (λ value. value.now) version.now.value) }
 {
     Count {
         entries: count.entries + 1,
@@ -89,11 +90,16 @@ fn count_deletes<D: Device>(
     requires log_high { log_sectors ≤ 2048 }
     requires readable { IsReadable log_sectors (D.medium device.old).size listed }
     ensures told { IsTrue (D.medium device.old).lasting.tells → MatchResult result
-        (λ deletes. deletes_counted listed.entries (table_in listed.data_blocks (blocks_at log_sectors (seen (disk (D.medium device.old))) listed)) ≡ Some deletes)
-        (IsRefusedFor (deletes_counted listed.entries (table_in listed.data_blocks (blocks_at log_sectors (seen (disk (D.medium device.old))) listed)))) }
+        (λ deletes. deletes_counted listed.entries
+        (table_in listed.data_blocks
+        (blocks_at log_sectors (seen (disk (D.medium device.old))) listed)) ≡ Some deletes)
+        (IsRefusedFor (deletes_counted listed.entries
+        (table_in listed.data_blocks
+        (blocks_at log_sectors (seen (disk (D.medium device.old))) listed)))) }
     ensures among { IfOk result (λ deletes. deletes ≤ listed.entries) }
     ensures refused { IfErr result (λ e. (e ≡ Refusal.BadTable) ⊎ (e ≡ Refusal.Io)) }
-    ensures device { ReadsBlocks listed.data_blocks (faultless result) (D.medium device.old) (D.medium device.new) }
+    ensures device { ReadsBlocks listed.data_blocks (faultless result) (D.medium device.old)
+        (D.medium device.new) }
 {
     let area = data_area(log_sectors);
     let mut count = Count {
@@ -123,11 +129,13 @@ fn deletes_of<D: Device>(
     requires log_high { log_sectors ≤ 2048 }
     requires readable { IsReadable log_sectors (D.medium device.old).size listed }
     ensures told { IsTrue (D.medium device.old).lasting.tells → MatchResult result
-        (λ deletes. deletes_of log_sectors (seen (disk (D.medium device.old))) listed ≡ Some deletes)
+        (λ deletes. deletes_of log_sectors (seen (disk (D.medium device.old))) listed
+        ≡ Some deletes)
         (IsRefusedFor (deletes_of log_sectors (seen (disk (D.medium device.old))) listed)) }
     ensures among { IfOk result (λ deletes. deletes ≤ listed.entries) }
     ensures refused { IfErr result (λ e. (e ≡ Refusal.BadTable) ⊎ (e ≡ Refusal.Io)) }
-    ensures device { ReadsBlocks (uncounted_blocks listed) (faultless result) (D.medium device.old) (D.medium device.new) }
+    ensures device { ReadsBlocks (uncounted_blocks listed) (faultless result) (D.medium device.old)
+        (D.medium device.new) }
 {
     match listed.deletes {
         Some(deletes) => Ok(deletes),
@@ -145,13 +153,17 @@ fn count_records<A: Allocator, D: Device>(
     requires log_high { log_sectors ≤ 2048 }
     requires readable { All (IsReadable log_sectors (D.medium device.old).size) listed.now }
     ensures told { IsTrue (D.medium device.old).lasting.tells → MatchResult result
-        (λ records. counted_records log_sectors (seen (disk (D.medium device.old))) listed.now ≡ Some records.items)
-        (IsRefusedFor (counted_records log_sectors (seen (disk (D.medium device.old))) listed.now)) }
-    ensures same { IfOk result (λ records. map without_deletes records.items ≡ map without_deletes listed.now) }
+        (λ records. counted_records log_sectors (seen (disk (D.medium device.old))) listed.now
+        ≡ Some records.items)
+        (IsRefusedFor (counted_records log_sectors (seen (disk (D.medium device.old)))
+        listed.now)) }
+    ensures same { IfOk result
+        (λ records. map without_deletes records.items ≡ map without_deletes listed.now) }
     ensures sized { IfOk result (λ records. All HasSizes records.items) }
     ensures version { IfOk result (λ records. All (IsOfVersion Two) records.items) }
     ensures refused { IfErr result IsTableRefusal }
-    ensures device { ReadsBlocks (all_uncounted listed.now) (faultless result) (D.medium device.old) (D.medium device.new) }
+    ensures device { ReadsBlocks (all_uncounted listed.now) (faultless result) (D.medium device.old)
+        (D.medium device.new) }
 {
     let mut records = Vec::with_capacity(alloc, listed.len())?;
     for table in listed {
@@ -187,11 +199,13 @@ fn count_tables<A: Allocator + Clone, D: Device>(
     ensures fits { IfOk result (IsManifestOf Two) }
     ensures inside { IfOk result (λ m. LieInside (D.medium device.old).size log_sectors m.tables) }
     ensures same { IfOk result (λ m. m ≡ with_tables manifest m.tables) }
-    ensures tables { IfOk result (λ m. map without_deletes m.tables ≡ map without_deletes manifest.tables) }
+    ensures tables { IfOk result
+        (λ m. map without_deletes m.tables ≡ map without_deletes manifest.tables) }
     ensures refused { IfErr result IsTableRefusal }
 
     // The device is only read, and only where a record doesn't tell the deletes.
-    ensures device { ReadsBlocks (all_uncounted manifest.tables) (faultless result) (D.medium device.old) (D.medium device.new) }
+    ensures device { ReadsBlocks (all_uncounted manifest.tables) (faultless result)
+        (D.medium device.old) (D.medium device.new) }
 {
     let tables = count_records(alloc.clone()?, device, log_sectors, manifest.tables())?;
     Ok(manifest.with_tables(tables))
@@ -203,21 +217,36 @@ pub fn load_counted<A: Allocator + Clone, D: Device>(
     alloc: &A,
     device: &mut D,
 ) -> Result<Loaded<A>, Refusal>
-    ensures loaded { IsTrue (D.medium device.old).lasting.tells → IfOk result (λ l. IsCountedRoot l.log_sectors l.manifest (seen (disk (D.medium device.old)))) }
-    ensures refusal { IsTrue (D.medium device.old).lasting.tells → IfErr result (λ e. (opening_refusal (seen (disk (D.medium device.old))) ≡ Some e) ⊎ ((e ≡ Refusal.NoMemory) ⊎ (e ≡ Refusal.Io))) }
-    ensures fits { IfOk result (λ l. IsGeometry (D.medium device.old).size l.log_sectors × IsManifestOf Two l.manifest) }
-    ensures inside { IfOk result (λ l. LieInside (D.medium device.old).size l.log_sectors l.manifest.tables) }
+    ensures loaded { IsTrue (D.medium device.old).lasting.tells
+        → IfOk result (λ l. IsCountedRoot l.log_sectors l.manifest
+        (seen (disk (D.medium device.old)))) }
+    ensures refusal { IsTrue (D.medium device.old).lasting.tells
+        → IfErr result (λ e. (opening_refusal (seen (disk (D.medium device.old))) ≡ Some e)
+        ⊎ ((e ≡ Refusal.NoMemory) ⊎ (e ≡ Refusal.Io))) }
+    ensures fits { IfOk result
+        (λ l. IsGeometry (D.medium device.old).size l.log_sectors × IsManifestOf Two l.manifest) }
+    ensures inside { IfOk result
+        (λ l. LieInside (D.medium device.old).size l.log_sectors l.manifest.tables) }
     ensures next { IsTrue (D.medium device.old).lasting.tells → IfOk result (λ l.
-        IsNext (D.medium device.old).size l.log_sectors (l.manifest.generation + 1) (superblock_in (seen (disk (D.medium device.old))))) }
-    ensures fair { (log_sectors : ℕ) (left : CrashState) → IsTrue (D.medium device.old).lasting.tells → StandFor log_sectors left (seen (disk (D.medium device.old)))
+        IsNext (D.medium device.old).size l.log_sectors (l.manifest.generation + 1)
+        (superblock_in (seen (disk (D.medium device.old))))) }
+    ensures fair { (log_sectors : ℕ) (left : CrashState)
+        → IsTrue (D.medium device.old).lasting.tells
+        → StandFor log_sectors left (seen (disk (D.medium device.old)))
         → IfErr result (λ e. (e ≡ Refusal.NoMemory) ⊎ (e ≡ Refusal.Io)) }
-    ensures refused { IfErr result (λ e. ((root : Root) × (refusal_of root ≡ Some e)) ⊎ IsTableRefusal e) }
+    ensures refused { IfErr result
+        (λ e. ((root : Root) × (refusal_of root ≡ Some e)) ⊎ IsTableRefusal e) }
 
     // It reads the root, and data blocks only of tables whose records tell no deletes: of a device that tells what it holds whatever
     // is answered. Of another device it is known after Ok that it reads at most all data blocks of the tables that are named.
-    ensures reads { IsTrue (D.medium device.old).lasting.tells → AtMost (66 + 8 * uncounted_by (root_of (seen (disk (D.medium device.old))))) 0 0 (D.medium device.old).calls (D.medium device.new).calls }
-    ensures most { IfOk result (λ l. AtMost (66 + 8 * all_data l.manifest.tables) 0 0 (D.medium device.old).calls (D.medium device.new).calls) }
-    ensures device { ReadsAtMost 524354 (faultless result) (D.medium device.old) (D.medium device.new) }
+    ensures reads { IsTrue (D.medium device.old).lasting.tells
+        → AtMost (66 + 8 * uncounted_by (root_of (seen (disk (D.medium device.old))))) 0 0
+        (D.medium device.old).calls (D.medium device.new).calls }
+    ensures most { IfOk result
+        (λ l. AtMost (66 + 8 * all_data l.manifest.tables) 0 0 (D.medium device.old).calls
+        (D.medium device.new).calls) }
+    ensures device { ReadsAtMost 524354 (faultless result) (D.medium device.old)
+        (D.medium device.new) }
 {
     let loaded = load(alloc.clone()?, device)?;
     let log_sectors = loaded.log_sectors;

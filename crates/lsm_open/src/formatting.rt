@@ -27,10 +27,13 @@ const LOG_REGIONS: u32 = 3;
 fn zero_front<D: Device>(device: &mut D, count: u32) -> Result<(), Fault>
     requires within { count ≤ (D.medium device.old).size }
     ensures zeroed { IsTrue (D.medium device.old).lasting.tells → OnOk result
-        (disk (D.medium device.new) ≡ synced (grown (run_at 0 (replicate count blank)) (disk (D.medium device.old)))) }
+        (disk (D.medium device.new)
+        ≡ synced (grown (run_at 0 (replicate count blank)) (disk (D.medium device.old)))) }
     ensures counts { AtMost 0 count 1 (D.medium device.old).calls (D.medium device.new).calls }
-    ensures made { OnOk result (CallsMade count 1 (D.medium device.old).calls (D.medium device.new).calls) }
-    ensures faults { (D.medium device.new).calls.faults ≡ faults_after (is_ok result) (D.medium device.old).calls.faults }
+    ensures made { OnOk result
+        (CallsMade count 1 (D.medium device.old).calls (D.medium device.new).calls) }
+    ensures faults { (D.medium device.new).calls.faults
+        ≡ faults_after (is_ok result) (D.medium device.old).calls.faults }
     ensures stops { OnErr result (IsTrue (D.medium device.new).calls.last_faulted) }
     ensures same_size { (D.medium device.new).size ≡ (D.medium device.old).size }
     ensures same_lasting { (D.medium device.new).lasting ≡ (D.medium device.old).lasting }
@@ -52,7 +55,8 @@ fn empty_root<A: Allocator + Clone>(
     log_sectors: u16,
 ) -> Result<NextRoot<A>, Refusal>
     requires geometry { IsGeometry sectors log_sectors }
-    ensures root { IfOk result (λ root. root ≡ record { size = sectors; log = log_sectors; manifest = empty_manifest }) }
+    ensures root { IfOk result
+        (λ root. root ≡ record { size = sectors; log = log_sectors; manifest = empty_manifest }) }
     ensures refused { IfErr result (λ refusal. refusal ≡ Refusal.NoMemory) }
 {
     let logs = Vec::new(alloc.clone()?);
@@ -68,11 +72,20 @@ fn write_empty<A: Allocator, D: Device>(
     root: &NextRoot<A>,
 ) -> Result<(), Fault>
     requires geometry { IsGeometry (D.medium device.old).size log_sectors }
-    requires root { root.now ≡ record { size = (D.medium device.old).size; log = log_sectors; manifest = empty_manifest } }
-    ensures formatted { IsTrue (D.medium device.old).lasting.tells → OnOk result (IsFormatted log_sectors (disk (D.medium device.new))) }
-    ensures counts { AtMost 0 (172 + 3 * log_sectors) 3 (D.medium device.old).calls (D.medium device.new).calls }
-    ensures made { OnOk result (CallsMade (132 + 3 * log_sectors) 3 (D.medium device.old).calls (D.medium device.new).calls) }
-    ensures faults { (D.medium device.new).calls.faults ≡ faults_after (is_ok result) (D.medium device.old).calls.faults }
+    requires root { root.now ≡ record {
+      size = (D.medium device.old).size;
+      log = log_sectors;
+      manifest = empty_manifest;
+    } }
+    ensures formatted { IsTrue (D.medium device.old).lasting.tells
+        → OnOk result (IsFormatted log_sectors (disk (D.medium device.new))) }
+    ensures counts { AtMost 0 (172 + 3 * log_sectors) 3 (D.medium device.old).calls
+        (D.medium device.new).calls }
+    ensures made { OnOk result
+        (CallsMade (132 + 3 * log_sectors) 3 (D.medium device.old).calls
+        (D.medium device.new).calls) }
+    ensures faults { (D.medium device.new).calls.faults
+        ≡ faults_after (is_ok result) (D.medium device.old).calls.faults }
     ensures stops { OnErr result (IsTrue (D.medium device.new).calls.last_faulted) }
     ensures same_size { (D.medium device.new).size ≡ (D.medium device.old).size }
     ensures same_lasting { (D.medium device.new).lasting ≡ (D.medium device.old).lasting }
@@ -89,13 +102,21 @@ fn make_empty<A: Allocator + Clone, D: Device>(
     log_sectors: u16,
 ) -> Result<(), Refusal>
     requires geometry { IsGeometry (D.medium device.old).size log_sectors }
-    ensures formatted { IsTrue (D.medium device.old).lasting.tells → OnOk result (IsFormatted log_sectors (disk (D.medium device.new))) }
-    ensures refused { IfErr result (λ refusal. (refusal ≡ Refusal.NoMemory) ⊎ (refusal ≡ Refusal.Io)) }
-    ensures untouched { IfErr result (λ refusal. IsTrue (is_no_fault refusal) → device.new ≡ device.old) }
-    ensures counts { AtMost 0 (172 + 3 * log_sectors) 3 (D.medium device.old).calls (D.medium device.new).calls }
-    ensures made { OnOk result (CallsMade (132 + 3 * log_sectors) 3 (D.medium device.old).calls (D.medium device.new).calls) }
-    ensures faults { (D.medium device.new).calls.faults ≡ faults_after (faultless result) (D.medium device.old).calls.faults }
-    ensures stops { IfErr result (λ refusal. refusal ≡ Refusal.Io → IsTrue (D.medium device.new).calls.last_faulted) }
+    ensures formatted { IsTrue (D.medium device.old).lasting.tells
+        → OnOk result (IsFormatted log_sectors (disk (D.medium device.new))) }
+    ensures refused { IfErr result
+        (λ refusal. (refusal ≡ Refusal.NoMemory) ⊎ (refusal ≡ Refusal.Io)) }
+    ensures untouched { IfErr result
+        (λ refusal. IsTrue (is_no_fault refusal) → device.new ≡ device.old) }
+    ensures counts { AtMost 0 (172 + 3 * log_sectors) 3 (D.medium device.old).calls
+        (D.medium device.new).calls }
+    ensures made { OnOk result
+        (CallsMade (132 + 3 * log_sectors) 3 (D.medium device.old).calls
+        (D.medium device.new).calls) }
+    ensures faults { (D.medium device.new).calls.faults
+        ≡ faults_after (faultless result) (D.medium device.old).calls.faults }
+    ensures stops { IfErr result
+        (λ refusal. refusal ≡ Refusal.Io → IsTrue (D.medium device.new).calls.last_faulted) }
     ensures same_size { (D.medium device.new).size ≡ (D.medium device.old).size }
     ensures same_lasting { (D.medium device.new).lasting ≡ (D.medium device.old).lasting }
 {
@@ -115,19 +136,31 @@ pub fn format<A: Allocator + Clone, D: Device>(
     device: D,
     log_sectors: u16,
 ) -> Result<D, (Refusal, D)>
-    ensures formatted { IsTrue (D.medium device).lasting.tells → IfOk result (λ made. IsFormatted log_sectors (disk (D.medium made))) }
+    ensures formatted { IsTrue (D.medium device).lasting.tells
+        → IfOk result (λ made. IsFormatted log_sectors (disk (D.medium made))) }
 
     // So a crash leaves the empty store of generation 1.
-    ensures leaves { IsTrue (D.medium device).lasting.tells → IfOk result (λ made. Leaves (StandFor log_sectors empty_store) (disk (D.medium made))) }
-    ensures bad_geometry { (without_device result ≡ Err Refusal.BadGeometry) ↔ (IsGeometry (D.medium device).size log_sectors → ⊥) }
+    ensures leaves { IsTrue (D.medium device).lasting.tells
+        → IfOk result (λ made. Leaves (StandFor log_sectors empty_store) (disk (D.medium made))) }
+    ensures bad_geometry { (without_device result ≡ Err Refusal.BadGeometry)
+        ↔ (IsGeometry (D.medium device).size log_sectors → ⊥) }
 
     // Only a device call that failed refuses once the device was called: all memory is taken before.
-    ensures untouched { IfErr (without_device result) (λ refusal. IsTrue (is_no_fault refusal) → handed_back result ≡ device) }
-    ensures refused { IfErr (without_device result) (λ refusal. (refusal ≡ Refusal.BadGeometry) ⊎ ((refusal ≡ Refusal.NoMemory) ⊎ (refusal ≡ Refusal.Io))) }
-    ensures counts { AtMost 0 (172 + 3 * log_sectors) 3 (D.medium device).calls (D.medium (handed_back result)).calls }
-    ensures made { IfOk result (λ made. CallsMade (132 + 3 * log_sectors) 3 (D.medium device).calls (D.medium made).calls) }
-    ensures faults { (D.medium (handed_back result)).calls.faults ≡ faults_after (faultless (without_device result)) (D.medium device).calls.faults }
-    ensures stops { IfErr (without_device result) (λ refusal. refusal ≡ Refusal.Io → IsTrue (D.medium (handed_back result)).calls.last_faulted) }
+    ensures untouched { IfErr (without_device result)
+        (λ refusal. IsTrue (is_no_fault refusal) → handed_back result ≡ device) }
+    ensures refused { IfErr (without_device result)
+        (λ refusal. (refusal ≡ Refusal.BadGeometry)
+        ⊎ ((refusal ≡ Refusal.NoMemory) ⊎ (refusal ≡ Refusal.Io))) }
+    ensures counts { AtMost 0 (172 + 3 * log_sectors) 3 (D.medium device).calls
+        (D.medium (handed_back result)).calls }
+    ensures made { IfOk result
+        (λ made. CallsMade (132 + 3 * log_sectors) 3 (D.medium device).calls
+        (D.medium made).calls) }
+    ensures faults { (D.medium (handed_back result)).calls.faults
+        ≡ faults_after (faultless (without_device result)) (D.medium device).calls.faults }
+    ensures stops { IfErr (without_device result)
+        (λ refusal. refusal ≡ Refusal.Io
+        → IsTrue (D.medium (handed_back result)).calls.last_faulted) }
     ensures same_size { (D.medium (handed_back result)).size ≡ (D.medium device).size }
     ensures same_lasting { (D.medium (handed_back result)).lasting ≡ (D.medium device).lasting }
 {

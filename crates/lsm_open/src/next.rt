@@ -42,7 +42,8 @@ fn add_records<A: Allocator>(
     run: u8,
     tables: &[PlacedTable<A>],
 ) -> Result<(), AllocError>
-    ensures { OnOk result (records.new.items ≡ records.old.items ++ map (record_of level run) tables.now) }
+    ensures { OnOk result (records.new.items
+        ≡ records.old.items ++ map (record_of level run) tables.now) }
 {
     for table in tables {
         records.push(table.table_record(level, run))?;
@@ -70,7 +71,8 @@ fn add_levels<A: Allocator>(
     levels: &[Run<A>],
 ) -> Result<(), AllocError>
     requires four { length levels.now ≡ 4 }
-    ensures { OnOk result (records.new.items ≡ records.old.items ++ records_of_levels 1 levels.now) }
+    ensures { OnOk result (records.new.items
+        ≡ records.old.items ++ records_of_levels 1 levels.now) }
 {
     for (below, tables) in levels.iter().enumerate() {
         add_records(records, below as u8 + 1, 0, tables.tables())?;

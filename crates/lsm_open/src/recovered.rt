@@ -87,7 +87,8 @@ fn seal_closed<A: Allocator + Clone>(
     mem: Mem<A>,
     closed: &[LogRecord],
 ) -> Result<Option<Arc<Sealed<A>, A>>, Refusal>
-    ensures sealed { IfOk result (λ s. option_map arc_value s ≡ (if length closed.now == 0 then None else Some mem)) }
+    ensures sealed { IfOk result
+        (λ s. option_map arc_value s ≡ (if length closed.now == 0 then None else Some mem)) }
     ensures ordered { IfOk result (λ s. AreOrdered (sealed_versions (option_map arc_value s))) }
     ensures refused { IfErr result (λ refusal. refusal ≡ Refusal.NoMemory) }
 {
@@ -111,9 +112,14 @@ fn keep<A: Allocator + Clone>(
     ensures records { IfOk result (λ k. k.records.items ≡ manifest.now.tables) }
     ensures closed { IfOk result (λ k. k.closed.items ≡ replayed.closed.items) }
     ensures count { IfOk result (λ k. k.count ≡ replayed.count) }
-    ensures sealed { IfOk result (λ k. option_map arc_value k.sealed ≡ (if length replayed.closed.items == 0 then None else Some replayed.mem)) }
-    ensures ordered { IfOk result (λ k. AreOrdered (sealed_versions (option_map arc_value k.sealed))) }
-    ensures refused { IfErr result (λ refusal. ((refusal ≡ Refusal.Exhausted) × (manifest.now.generation ≡ last_number)) ⊎ (refusal ≡ Refusal.NoMemory)) }
+    ensures sealed { IfOk result
+        (λ k. option_map arc_value k.sealed
+        ≡ (if length replayed.closed.items == 0 then None else Some replayed.mem)) }
+    ensures ordered { IfOk result
+        (λ k. AreOrdered (sealed_versions (option_map arc_value k.sealed))) }
+    ensures refused { IfErr result
+        (λ refusal. ((refusal ≡ Refusal.Exhausted) × (manifest.now.generation ≡ last_number))
+        ⊎ (refusal ≡ Refusal.NoMemory)) }
 {
     if manifest.generation() == LAST_NUMBER {
         return Err(Refusal::Exhausted);
@@ -135,17 +141,30 @@ fn read_parts<A: Allocator + Clone, D: Device>(
     alloc: &A,
     device: &mut D,
 ) -> Result<Read<A>, Refusal>
-    ensures refusal { IsTrue (D.medium device.old).lasting.tells → OpensUnless (opening_refusal (seen (disk (D.medium device.old)))) result }
-    ensures read { IfOk result (λ r. AreRead (D.medium device.old).size r.loaded.log_sectors r.loaded.manifest r.kept.closed.items r.kept.count (option_map arc_value r.kept.sealed) r.levels r.extents) }
+    ensures refusal { IsTrue (D.medium device.old).lasting.tells
+        → OpensUnless (opening_refusal (seen (disk (D.medium device.old)))) result }
+    ensures read { IfOk result
+        (λ r. AreRead (D.medium device.old).size r.loaded.log_sectors r.loaded.manifest
+        r.kept.closed.items r.kept.count (option_map arc_value r.kept.sealed) r.levels
+        r.extents) }
     ensures records { IfOk result (λ r. r.kept.records.items ≡ r.loaded.manifest.tables) }
     ensures told { IsTrue (D.medium device.old).lasting.tells → IfOk result (λ r.
-        AreToldBy (D.medium device.old).size r.loaded.log_sectors (seen (disk (D.medium device.old))) r.loaded.manifest r.kept.closed.items r.kept.count (option_map arc_value r.kept.sealed) r.levels) }
-    ensures fair { (log_sectors : ℕ) (left : CrashState) → IsTrue (D.medium device.old).lasting.tells → StandFor log_sectors left (seen (disk (D.medium device.old)))
+        AreToldBy (D.medium device.old).size r.loaded.log_sectors
+        (seen (disk (D.medium device.old))) r.loaded.manifest r.kept.closed.items r.kept.count
+        (option_map arc_value r.kept.sealed) r.levels) }
+    ensures fair { (log_sectors : ℕ) (left : CrashState)
+        → IsTrue (D.medium device.old).lasting.tells
+        → StandFor log_sectors left (seen (disk (D.medium device.old)))
         → IfErr result (MayRefuseOpening left) }
     ensures refused { IfErr result IsOpeningRefusal }
-    ensures reads { IsTrue (D.medium device.old).lasting.tells → AtMost (sectors_read_by (root_of (seen (disk (D.medium device.old))))) 0 0 (D.medium device.old).calls (D.medium device.new).calls }
-    ensures most { IfOk result (λ r. AtMost (sectors_read_most r.loaded.log_sectors r.loaded.manifest.tables) 0 0 (D.medium device.old).calls (D.medium device.new).calls) }
-    ensures device { ReadsAtMost 587842 (faultless result) (D.medium device.old) (D.medium device.new) }
+    ensures reads { IsTrue (D.medium device.old).lasting.tells
+        → AtMost (sectors_read_by (root_of (seen (disk (D.medium device.old))))) 0 0
+        (D.medium device.old).calls (D.medium device.new).calls }
+    ensures most { IfOk result
+        (λ r. AtMost (sectors_read_most r.loaded.log_sectors r.loaded.manifest.tables) 0 0
+        (D.medium device.old).calls (D.medium device.new).calls) }
+    ensures device { ReadsAtMost 587842 (faultless result) (D.medium device.old)
+        (D.medium device.new) }
 {
     let loaded = load_counted(alloc, device)?;
     let tables = read_tables(alloc, device, loaded.log_sectors, &loaded.manifest)?;
@@ -164,26 +183,54 @@ fn recover_settled<A: Allocator + Clone, D: Device>(
     alloc: A,
     device: &mut D,
 ) -> Result<RecoveredParts<A>, Refusal>
-    requires rests { IsTrue (D.medium device.old).lasting.tells → (disk (D.medium device.old)).pending ≡ [] }
-    ensures refusal { IsTrue (D.medium device.old).lasting.tells → OpensUnless (opening_refusal (seen (disk (D.medium device.old)))) result }
-    ensures within { IfOk result (λ p. AreWithinLimits (D.medium device.old).size (placed_in (layout_of p.regions) p.levels p.records.items) p.count (option_map arc_value p.sealed) p.levels p.extents) }
+    requires rests { IsTrue (D.medium device.old).lasting.tells
+        → (disk (D.medium device.old)).pending ≡ [] }
+    ensures refusal { IsTrue (D.medium device.old).lasting.tells
+        → OpensUnless (opening_refusal (seen (disk (D.medium device.old)))) result }
+    ensures within { IfOk result
+        (λ p. AreWithinLimits (D.medium device.old).size
+        (placed_in (layout_of p.regions) p.levels p.records.items) p.count
+        (option_map arc_value p.sealed) p.levels p.extents) }
     ensures reopened { IsTrue (D.medium device.old).lasting.tells → IfOk result (λ p.
-        IsReopened (seen (disk (D.medium device.old))) (placed_in (layout_of p.regions) p.levels p.records.items) p.count (option_map arc_value p.sealed) p.levels (disk (D.medium device.new))) }
-    ensures recovered { (log_sectors : ℕ) (left : CrashState) → IsTrue (D.medium device.old).lasting.tells → StandFor log_sectors left (seen (disk (D.medium device.old)))
-        → IfOk result (λ p. IsRecovered log_sectors left (placed_in (layout_of p.regions) p.levels p.records.items) p.count (option_map arc_value p.sealed) p.levels (disk (D.medium device.new))) }
-    ensures any_moment { (log_sectors : ℕ) (left : CrashState) → IsTrue (D.medium device.old).lasting.tells → StandFor log_sectors left (seen (disk (D.medium device.old)))
-        → EachSince (Leaves (StandForOne log_sectors (left_by_opening left))) (D.medium device.old).history (D.medium device.new).history }
-    ensures fair { (log_sectors : ℕ) (left : CrashState) → IsTrue (D.medium device.old).lasting.tells → StandFor log_sectors left (seen (disk (D.medium device.old)))
+        IsReopened (seen (disk (D.medium device.old)))
+        (placed_in (layout_of p.regions) p.levels p.records.items) p.count
+        (option_map arc_value p.sealed) p.levels (disk (D.medium device.new))) }
+    ensures recovered { (log_sectors : ℕ) (left : CrashState)
+        → IsTrue (D.medium device.old).lasting.tells
+        → StandFor log_sectors left (seen (disk (D.medium device.old)))
+        → IfOk result (λ p. IsRecovered log_sectors left
+        (placed_in (layout_of p.regions) p.levels p.records.items) p.count
+        (option_map arc_value p.sealed) p.levels (disk (D.medium device.new))) }
+    ensures any_moment { (log_sectors : ℕ) (left : CrashState)
+        → IsTrue (D.medium device.old).lasting.tells
+        → StandFor log_sectors left (seen (disk (D.medium device.old)))
+        → EachSince (Leaves (StandForOne log_sectors (left_by_opening left)))
+        (D.medium device.old).history (D.medium device.new).history }
+    ensures fair { (log_sectors : ℕ) (left : CrashState)
+        → IsTrue (D.medium device.old).lasting.tells
+        → StandFor log_sectors left (seen (disk (D.medium device.old)))
         → IfErr result (MayRefuseOpening left) }
     ensures refused { IfErr result IsOpeningRefusal }
-    ensures unwritten { IfErr result (λ refusal. IsTrue (is_no_fault refusal) → AtMost 587842 0 0 (D.medium device.old).calls (D.medium device.new).calls) }
-    ensures unchanged { IsTrue (D.medium device.old).lasting.tells → IfErr result (λ refusal. IsTrue (is_no_fault refusal) → (D.medium device.new).history ≡ (D.medium device.old).history) }
-    ensures made { IfOk result (λ p. HasWritten (contents_for (placed_in (layout_of p.regions) p.levels p.records.items)) 2 (D.medium device.old).calls (D.medium device.new).calls) }
-    ensures reads { IsTrue (D.medium device.old).lasting.tells → AtMost (sectors_read_by (root_of (seen (disk (D.medium device.old))))) 42 2 (D.medium device.old).calls (D.medium device.new).calls }
-    ensures most { IfOk result (λ p. AtMost (sectors_read_most p.regions.log_sectors p.records.items) 42 2 (D.medium device.old).calls (D.medium device.new).calls) }
+    ensures unwritten { IfErr result
+        (λ refusal. IsTrue (is_no_fault refusal)
+        → AtMost 587842 0 0 (D.medium device.old).calls (D.medium device.new).calls) }
+    ensures unchanged { IsTrue (D.medium device.old).lasting.tells
+        → IfErr result (λ refusal. IsTrue (is_no_fault refusal)
+        → (D.medium device.new).history ≡ (D.medium device.old).history) }
+    ensures made { IfOk result
+        (λ p. HasWritten (contents_for (placed_in (layout_of p.regions) p.levels p.records.items)) 2
+        (D.medium device.old).calls (D.medium device.new).calls) }
+    ensures reads { IsTrue (D.medium device.old).lasting.tells
+        → AtMost (sectors_read_by (root_of (seen (disk (D.medium device.old))))) 42 2
+        (D.medium device.old).calls (D.medium device.new).calls }
+    ensures most { IfOk result
+        (λ p. AtMost (sectors_read_most p.regions.log_sectors p.records.items) 42 2
+        (D.medium device.old).calls (D.medium device.new).calls) }
     ensures calls { AtMost 587842 42 2 (D.medium device.old).calls (D.medium device.new).calls }
-    ensures faults { (D.medium device.new).calls.faults ≡ faults_after (faultless result) (D.medium device.old).calls.faults }
-    ensures stops { IfErr result (λ refusal. refusal ≡ Refusal.Io → IsTrue (D.medium device.new).calls.last_faulted) }
+    ensures faults { (D.medium device.new).calls.faults
+        ≡ faults_after (faultless result) (D.medium device.old).calls.faults }
+    ensures stops { IfErr result
+        (λ refusal. refusal ≡ Refusal.Io → IsTrue (D.medium device.new).calls.last_faulted) }
     ensures same_size { (D.medium device.new).size ≡ (D.medium device.old).size }
     ensures same_lasting { (D.medium device.new).lasting ≡ (D.medium device.old).lasting }
 {
@@ -203,16 +250,25 @@ fn recover_settled<A: Allocator + Clone, D: Device>(
 
 // The first call of an opening, a sync, on a device of a fair size.
 fn begin<D: Device>(device: &mut D) -> Result<(), Refusal>
-    ensures size { (IsDeviceSize (D.medium device.old).size → ⊥) → (result ≡ Err Refusal.BadGeometry) × (device.new ≡ device.old) }
+    ensures size { (IsDeviceSize (D.medium device.old).size → ⊥)
+        → (result ≡ Err Refusal.BadGeometry) × (device.new ≡ device.old) }
     ensures stands { IsTrue (D.medium device.old).lasting.tells → OnOk result
-        (Becomes (synced (disk (D.medium device.old))) (D.medium device.old).history (D.medium device.new).history) }
-    ensures unchanged { IsTrue (D.medium device.old).lasting.tells → OnErr result ((D.medium device.new).history ≡ (D.medium device.old).history) }
-    ensures refused { IfErr result (λ refusal. ((refusal ≡ Refusal.BadGeometry) × (IsDeviceSize (D.medium device.old).size → ⊥)) ⊎ (refusal ≡ Refusal.Io)) }
-    ensures counted { IsDeviceSize (D.medium device.old).size → (D.medium device.new).calls ≡ after_sync (is_ok result) (D.medium device.old).calls }
-    ensures made { OnOk result ((D.medium device.new).calls ≡ after_sync true (D.medium device.old).calls) }
+        (Becomes (synced (disk (D.medium device.old))) (D.medium device.old).history
+        (D.medium device.new).history) }
+    ensures unchanged { IsTrue (D.medium device.old).lasting.tells
+        → OnErr result ((D.medium device.new).history ≡ (D.medium device.old).history) }
+    ensures refused { IfErr result
+        (λ refusal. ((refusal ≡ Refusal.BadGeometry)
+        × (IsDeviceSize (D.medium device.old).size → ⊥)) ⊎ (refusal ≡ Refusal.Io)) }
+    ensures counted { IsDeviceSize (D.medium device.old).size
+        → (D.medium device.new).calls ≡ after_sync (is_ok result) (D.medium device.old).calls }
+    ensures made { OnOk result
+        ((D.medium device.new).calls ≡ after_sync true (D.medium device.old).calls) }
     ensures calls { AtMost 0 0 1 (D.medium device.old).calls (D.medium device.new).calls }
-    ensures faults { (D.medium device.new).calls.faults ≡ faults_after (faultless result) (D.medium device.old).calls.faults }
-    ensures stops { IfErr result (λ refusal. refusal ≡ Refusal.Io → IsTrue (D.medium device.new).calls.last_faulted) }
+    ensures faults { (D.medium device.new).calls.faults
+        ≡ faults_after (faultless result) (D.medium device.old).calls.faults }
+    ensures stops { IfErr result
+        (λ refusal. refusal ≡ Refusal.Io → IsTrue (D.medium device.new).calls.last_faulted) }
     ensures same_size { (D.medium device.new).size ≡ (D.medium device.old).size }
     ensures same_lasting { (D.medium device.new).lasting ≡ (D.medium device.old).lasting }
 {
@@ -228,29 +284,60 @@ fn recover_parts<A: Allocator + Clone, D: Device>(
     alloc: A,
     device: &mut D,
 ) -> Result<RecoveredParts<A>, Refusal>
-    ensures size { (IsDeviceSize (D.medium device.old).size → ⊥) → (result ≡ Err Refusal.BadGeometry) × (device.new ≡ device.old) }
-    ensures refusal { IsTrue (D.medium device.old).lasting.tells → IsDeviceSize (D.medium device.old).size
+    ensures size { (IsDeviceSize (D.medium device.old).size → ⊥)
+        → (result ≡ Err Refusal.BadGeometry) × (device.new ≡ device.old) }
+    ensures refusal { IsTrue (D.medium device.old).lasting.tells
+        → IsDeviceSize (D.medium device.old).size
         → OpensUnless (opening_refusal (seen (disk (D.medium device.old)))) result }
-    ensures within { IfOk result (λ p. AreWithinLimits (D.medium device.old).size (placed_in (layout_of p.regions) p.levels p.records.items) p.count (option_map arc_value p.sealed) p.levels p.extents) }
+    ensures within { IfOk result
+        (λ p. AreWithinLimits (D.medium device.old).size
+        (placed_in (layout_of p.regions) p.levels p.records.items) p.count
+        (option_map arc_value p.sealed) p.levels p.extents) }
     ensures reopened { IsTrue (D.medium device.old).lasting.tells → IfOk result (λ p.
-        IsReopened (seen (disk (D.medium device.old))) (placed_in (layout_of p.regions) p.levels p.records.items) p.count (option_map arc_value p.sealed) p.levels (disk (D.medium device.new))) }
-    ensures recovered { (log_sectors : ℕ) (left : CrashState) → IsTrue (D.medium device.old).lasting.tells → StandFor log_sectors left (seen (disk (D.medium device.old)))
-        → IfOk result (λ p. IsRecovered log_sectors left (placed_in (layout_of p.regions) p.levels p.records.items) p.count (option_map arc_value p.sealed) p.levels (disk (D.medium device.new))) }
-    ensures any_moment { (log_sectors : ℕ) (left : CrashState) → IsTrue (D.medium device.old).lasting.tells → StandFor log_sectors left (seen (disk (D.medium device.old)))
-        → OnOk result (CrashesWhileOpening (D.medium device.old) log_sectors left (D.medium device.new)) }
-    ensures fails { (log_sectors : ℕ) (left : CrashState) → IsTrue (D.medium device.old).lasting.tells → StandFor log_sectors left (seen (disk (D.medium device.old)))
-        → IfErr result (λ refusal. FailsToOpen (D.medium device.old) log_sectors left refusal (D.medium device.new)) }
+        IsReopened (seen (disk (D.medium device.old)))
+        (placed_in (layout_of p.regions) p.levels p.records.items) p.count
+        (option_map arc_value p.sealed) p.levels (disk (D.medium device.new))) }
+    ensures recovered { (log_sectors : ℕ) (left : CrashState)
+        → IsTrue (D.medium device.old).lasting.tells
+        → StandFor log_sectors left (seen (disk (D.medium device.old)))
+        → IfOk result (λ p. IsRecovered log_sectors left
+        (placed_in (layout_of p.regions) p.levels p.records.items) p.count
+        (option_map arc_value p.sealed) p.levels (disk (D.medium device.new))) }
+    ensures any_moment { (log_sectors : ℕ) (left : CrashState)
+        → IsTrue (D.medium device.old).lasting.tells
+        → StandFor log_sectors left (seen (disk (D.medium device.old)))
+        → OnOk result (CrashesWhileOpening (D.medium device.old) log_sectors left
+        (D.medium device.new)) }
+    ensures fails { (log_sectors : ℕ) (left : CrashState)
+        → IsTrue (D.medium device.old).lasting.tells
+        → StandFor log_sectors left (seen (disk (D.medium device.old)))
+        → IfErr result (λ refusal. FailsToOpen (D.medium device.old) log_sectors left refusal
+        (D.medium device.new)) }
     ensures refused { IfErr result IsOpeningRefusal }
-    ensures unwritten { IfErr result (λ refusal. IsTrue (is_no_fault refusal) → AtMost 587842 0 1 (D.medium device.old).calls (D.medium device.new).calls) }
-    ensures settled { IsTrue (D.medium device.old).lasting.tells → IsDeviceSize (D.medium device.old).size → IfErr result (λ refusal. IsTrue (is_no_fault refusal)
-        → Becomes (synced (disk (D.medium device.old))) (D.medium device.old).history (D.medium device.new).history) }
-    ensures begins { IsDeviceSize (D.medium device.old).size → BeginsWithSync (D.medium device.old).calls (D.medium device.new).calls }
-    ensures made { IfOk result (λ p. HasWritten (contents_for (placed_in (layout_of p.regions) p.levels p.records.items)) 3 (D.medium device.old).calls (D.medium device.new).calls) }
-    ensures reads { IsTrue (D.medium device.old).lasting.tells → AtMost (sectors_read_by (root_of (seen (disk (D.medium device.old))))) 42 3 (D.medium device.old).calls (D.medium device.new).calls }
-    ensures most { IfOk result (λ p. AtMost (sectors_read_most p.regions.log_sectors p.records.items) 42 3 (D.medium device.old).calls (D.medium device.new).calls) }
+    ensures unwritten { IfErr result
+        (λ refusal. IsTrue (is_no_fault refusal)
+        → AtMost 587842 0 1 (D.medium device.old).calls (D.medium device.new).calls) }
+    ensures settled { IsTrue (D.medium device.old).lasting.tells
+        → IsDeviceSize (D.medium device.old).size
+        → IfErr result (λ refusal. IsTrue (is_no_fault refusal)
+        → Becomes (synced (disk (D.medium device.old))) (D.medium device.old).history
+        (D.medium device.new).history) }
+    ensures begins { IsDeviceSize (D.medium device.old).size
+        → BeginsWithSync (D.medium device.old).calls (D.medium device.new).calls }
+    ensures made { IfOk result
+        (λ p. HasWritten (contents_for (placed_in (layout_of p.regions) p.levels p.records.items)) 3
+        (D.medium device.old).calls (D.medium device.new).calls) }
+    ensures reads { IsTrue (D.medium device.old).lasting.tells
+        → AtMost (sectors_read_by (root_of (seen (disk (D.medium device.old))))) 42 3
+        (D.medium device.old).calls (D.medium device.new).calls }
+    ensures most { IfOk result
+        (λ p. AtMost (sectors_read_most p.regions.log_sectors p.records.items) 42 3
+        (D.medium device.old).calls (D.medium device.new).calls) }
     ensures calls { AtMost 587842 42 3 (D.medium device.old).calls (D.medium device.new).calls }
-    ensures faults { (D.medium device.new).calls.faults ≡ faults_after (faultless result) (D.medium device.old).calls.faults }
-    ensures stops { IfErr result (λ refusal. refusal ≡ Refusal.Io → IsTrue (D.medium device.new).calls.last_faulted) }
+    ensures faults { (D.medium device.new).calls.faults
+        ≡ faults_after (faultless result) (D.medium device.old).calls.faults }
+    ensures stops { IfErr result
+        (λ refusal. refusal ≡ Refusal.Io → IsTrue (D.medium device.new).calls.last_faulted) }
     ensures same_size { (D.medium device.new).size ≡ (D.medium device.old).size }
     ensures same_lasting { (D.medium device.new).lasting ≡ (D.medium device.old).lasting }
 {
@@ -277,38 +364,60 @@ pub fn recover<A: Allocator + Clone, D: Device>(
 ) -> Result<Recovered<D, A>, (Refusal, D)>
     // Just where the size is outside the limits it fails with BadGeometry before any device call, and then nothing else is
     // answered, NoMemory neither.
-    ensures size { (result ≡ Err (Refusal.BadGeometry, device)) ↔ (IsDeviceSize (D.medium device).size → ⊥) }
+    ensures size { (result ≡ Err (Refusal.BadGeometry, device))
+        ↔ (IsDeviceSize (D.medium device).size → ⊥) }
 
     // Of any sectors it returns Ok only where no refusal holds, and an Err is the one that holds, or NoMemory, or a
     // fault.
-    ensures refusal { IsTrue (D.medium device).lasting.tells → IsDeviceSize (D.medium device).size → MatchResult result
+    ensures refusal { IsTrue (D.medium device).lasting.tells → IsDeviceSize (D.medium device).size
+        → MatchResult result
         (λ r. opening_refusal (seen (disk (D.medium device))) ≡ None)
-        (λ e. (opening_refusal (seen (disk (D.medium device))) ≡ Some e.0) ⊎ ((e.0 ≡ Refusal.NoMemory) ⊎ (e.0 ≡ Refusal.Io))) }
+        (λ e. (opening_refusal (seen (disk (D.medium device))) ≡ Some e.0)
+        ⊎ ((e.0 ≡ Refusal.NoMemory) ⊎ (e.0 ≡ Refusal.Io))) }
 
     // Whatever the device holds, and whether it tells so or not, an Err is one of these; and after Ok the parts are within
     // the limits, and just their manifest was written.
     ensures refused { IfErr result (λ e. IsOpeningRefusal e.0) }
-    ensures made { IfOk result (λ r. HasWritten (contents_for (placed_in (layout_of r.regions) r.levels r.records.items)) 3 (D.medium device).calls (D.medium r.device).calls) }
-    ensures within { IfOk result (λ r. AreWithinLimits (D.medium device).size (placed_in (layout_of r.regions) r.levels r.records.items) r.count (option_map arc_value r.sealed) r.levels r.extents) }
+    ensures made { IfOk result
+        (λ r. HasWritten (contents_for (placed_in (layout_of r.regions) r.levels r.records.items)) 3
+        (D.medium device).calls (D.medium r.device).calls) }
+    ensures within { IfOk result
+        (λ r. AreWithinLimits (D.medium device).size
+        (placed_in (layout_of r.regions) r.levels r.records.items) r.count
+        (option_map arc_value r.sealed) r.levels r.extents) }
 
     // Where a manifest stands, base, tables and next table number stay, and memory has just the versions of the batches in
     // the listed regions.
     ensures reopened { IsTrue (D.medium device).lasting.tells → IfOk result (λ r.
-        IsReopened (seen (disk (D.medium device))) (placed_in (layout_of r.regions) r.levels r.records.items) r.count (option_map arc_value r.sealed) r.levels (disk (D.medium r.device))) }
+        IsReopened (seen (disk (D.medium device)))
+        (placed_in (layout_of r.regions) r.levels r.records.items) r.count
+        (option_map arc_value r.sealed) r.levels (disk (D.medium r.device))) }
 
     // Of what a crash left it recovers the store, and is refused only fairly.
-    ensures recovered { (log_sectors : ℕ) (left : CrashState) → IsTrue (D.medium device).lasting.tells → StandFor log_sectors left (seen (disk (D.medium device)))
-        → IfOk result (λ r. IsRecovered log_sectors left (placed_in (layout_of r.regions) r.levels r.records.items) r.count (option_map arc_value r.sealed) r.levels (disk (D.medium r.device))) }
-    ensures any_moment { (log_sectors : ℕ) (left : CrashState) → IsTrue (D.medium device).lasting.tells → StandFor log_sectors left (seen (disk (D.medium device)))
-        → IfOk result (λ r. CrashesWhileOpening (D.medium device) log_sectors left (D.medium r.device)) }
-    ensures fails { (log_sectors : ℕ) (left : CrashState) → IsTrue (D.medium device).lasting.tells → StandFor log_sectors left (seen (disk (D.medium device)))
+    ensures recovered { (log_sectors : ℕ) (left : CrashState)
+        → IsTrue (D.medium device).lasting.tells
+        → StandFor log_sectors left (seen (disk (D.medium device)))
+        → IfOk result (λ r. IsRecovered log_sectors left
+        (placed_in (layout_of r.regions) r.levels r.records.items) r.count
+        (option_map arc_value r.sealed) r.levels (disk (D.medium r.device))) }
+    ensures any_moment { (log_sectors : ℕ) (left : CrashState)
+        → IsTrue (D.medium device).lasting.tells
+        → StandFor log_sectors left (seen (disk (D.medium device)))
+        → IfOk result (λ r. CrashesWhileOpening (D.medium device) log_sectors left
+        (D.medium r.device)) }
+    ensures fails { (log_sectors : ℕ) (left : CrashState) → IsTrue (D.medium device).lasting.tells
+        → StandFor log_sectors left (seen (disk (D.medium device)))
         → IfErr result (λ e. FailsToOpen (D.medium device) log_sectors left e.0 (D.medium e.1)) }
 
     // A refusal that tells of no fault has written nothing. It made one sync at most, and exactly for a size outside the
     // limits none.
-    ensures unwritten { IfErr result (λ e. IsTrue (is_no_fault e.0) → AtMost 587842 0 1 (D.medium device).calls (D.medium e.1).calls) }
-    ensures settled { IsTrue (D.medium device).lasting.tells → IsDeviceSize (D.medium device).size → IfErr result (λ e. IsTrue (is_no_fault e.0)
-        → Becomes (synced (disk (D.medium device))) (D.medium device).history (D.medium e.1).history) }
+    ensures unwritten { IfErr result
+        (λ e. IsTrue (is_no_fault e.0)
+        → AtMost 587842 0 1 (D.medium device).calls (D.medium e.1).calls) }
+    ensures settled { IsTrue (D.medium device).lasting.tells → IsDeviceSize (D.medium device).size
+        → IfErr result (λ e. IsTrue (is_no_fault e.0)
+        → Becomes (synced (disk (D.medium device))) (D.medium device).history
+        (D.medium e.1).history) }
     ensures begins { IsDeviceSize (D.medium device).size → MatchResult result
         (λ r. BeginsWithSync (D.medium device).calls (D.medium r.device).calls)
         (λ e. BeginsWithSync (D.medium device).calls (D.medium e.1).calls) }
@@ -316,21 +425,30 @@ pub fn recover<A: Allocator + Clone, D: Device>(
     // A device call faulted exactly where it returns Io, and then the last.
     ensures faults { MatchResult result
         (λ r. (D.medium r.device).calls.faults ≡ (D.medium device).calls.faults)
-        (λ e. (D.medium e.1).calls.faults ≡ faults_after (is_no_fault e.0) (D.medium device).calls.faults) }
-    ensures stops { IfErr result (λ e. e.0 ≡ Refusal.Io → IsTrue (D.medium e.1).calls.last_faulted) }
+        (λ e. (D.medium e.1).calls.faults
+        ≡ faults_after (is_no_fault e.0) (D.medium device).calls.faults) }
+    ensures stops { IfErr result
+        (λ e. e.0 ≡ Refusal.Io → IsTrue (D.medium e.1).calls.last_faulted) }
 
     // Of the tables it reads footer, index and filter, and data blocks only of those whose records tell no deletes: in version 1
     // of the format each once, to count them, and in version 2 none. So it is of a device that tells what it holds, whatever is
     // answered. Of another device it is known after Ok that it reads at most all these blocks of the tables that are answered.
     ensures reads { IsTrue (D.medium device).lasting.tells → MatchResult result
-        (λ r. AtMost (sectors_read_by (root_of (seen (disk (D.medium device))))) 42 3 (D.medium device).calls (D.medium r.device).calls)
-        (λ e. AtMost (sectors_read_by (root_of (seen (disk (D.medium device))))) 42 3 (D.medium device).calls (D.medium e.1).calls) }
-    ensures most { IfOk result (λ r. AtMost (sectors_read_most r.regions.log_sectors r.records.items) 42 3 (D.medium device).calls (D.medium r.device).calls) }
+        (λ r. AtMost (sectors_read_by (root_of (seen (disk (D.medium device))))) 42 3
+        (D.medium device).calls (D.medium r.device).calls)
+        (λ e. AtMost (sectors_read_by (root_of (seen (disk (D.medium device))))) 42 3
+        (D.medium device).calls (D.medium e.1).calls) }
+    ensures most { IfOk result
+        (λ r. AtMost (sectors_read_most r.regions.log_sectors r.records.items) 42 3
+        (D.medium device).calls (D.medium r.device).calls) }
     ensures calls { MatchResult result
         (λ r. AtMost 587842 42 3 (D.medium device).calls (D.medium r.device).calls)
         (λ e. AtMost 587842 42 3 (D.medium device).calls (D.medium e.1).calls) }
-    ensures same_size { MatchResult result (λ r. (D.medium r.device).size ≡ (D.medium device).size) (λ e. (D.medium e.1).size ≡ (D.medium device).size) }
-    ensures same_lasting { MatchResult result (λ r. (D.medium r.device).lasting ≡ (D.medium device).lasting) (λ e. (D.medium e.1).lasting ≡ (D.medium device).lasting) }
+    ensures same_size { MatchResult result (λ r. (D.medium r.device).size ≡ (D.medium device).size)
+        (λ e. (D.medium e.1).size ≡ (D.medium device).size) }
+    ensures same_lasting { MatchResult result
+        (λ r. (D.medium r.device).lasting ≡ (D.medium device).lasting)
+        (λ e. (D.medium e.1).lasting ≡ (D.medium device).lasting) }
 {
     let mut device = device;
     match recover_parts(alloc, &mut device) {

@@ -65,7 +65,8 @@ impl<A: Allocator> Regions<A> {
     /// The log records of the regions that hold batches after those in tables: of the closed ones, unless all of their batches
     /// are in tables, and then that of the open log, if one is open.
     pub fn log_records(&self, alloc: A, settled: bool) -> Result<Vec<LogRecord, A>, AllocError>
-        ensures { IfOk result (λ logs. logs.items ≡ (if settled then [] else self.now.closed.items) ++ open_records self.now.open_region) }
+        ensures { IfOk result (λ logs. logs.items ≡ (if settled then [] else self.now.closed.items)
+            ++ open_records self.now.open_region) }
     {
         let mut logs = Vec::new(alloc);
         if !settled {
@@ -90,7 +91,9 @@ impl<A: Allocator + Clone> Regions<A> {
         runs: u8,
         tables: &[TableRecord],
     ) -> Result<Manifest<A>, AllocError>
-        ensures { IfOk result (λ m. m ≡ contents_for (record { logs = layout_of self.now; runs = runs; tables = tables.now })) }
+        ensures { IfOk result (λ m. m
+            ≡ contents_for (record
+            { logs = layout_of self.now; runs = runs; tables = tables.now })) }
     {
         let logs = self.log_records(alloc.clone()?, false)?;
         let mut named = Vec::new(alloc);

@@ -72,7 +72,8 @@ fn next_regions<A: Allocator>(
     requires log_high { loaded.now.log_sectors ≤ 2048 }
     requires generation_high { loaded.now.manifest.generation ≤ 2 ^ 63 }
     requires count_high { count ≤ 2 ^ 63 }
-    ensures layout { IsNextLayout loaded.now.log_sectors loaded.now.manifest count (layout_of result) }
+    ensures layout { IsNextLayout loaded.now.log_sectors loaded.now.manifest count
+        (layout_of result) }
     ensures kept { result.closed.items ≡ closed.items }
 {
     let generation = loaded.manifest.generation() + 1;
@@ -98,28 +99,44 @@ pub(crate) fn reopen<A: Allocator + Clone, D: Device>(
 ) -> Result<Regions<A>, Refusal>
     requires geometry { IsGeometry (D.medium device.old).size loaded.now.log_sectors }
     requires fits { IsManifestOf Two loaded.now.manifest }
-    requires inside { LieInside (D.medium device.old).size loaded.now.log_sectors loaded.now.manifest.tables }
+    requires inside { LieInside (D.medium device.old).size loaded.now.log_sectors
+        loaded.now.manifest.tables }
     requires has_next { loaded.now.manifest.generation ≢ last_number }
     requires come { HasCome loaded.now.manifest count closed.items [] }
-    requires ready { IsTrue (D.medium device.old).lasting.tells → IsReady (D.medium device.old).size loaded.now.log_sectors (loaded.now.manifest.generation + 1) (disk (D.medium device.old)) }
+    requires ready { IsTrue (D.medium device.old).lasting.tells
+        → IsReady (D.medium device.old).size loaded.now.log_sectors
+        (loaded.now.manifest.generation + 1) (disk (D.medium device.old)) }
 
     // A log may be open in the least free region, whether it comes to be installed or not.
-    ensures may_open { (o : Option OpenRegion) × IsInLeastFree loaded.now.log_sectors (loaded.now.manifest.generation + 1) count closed.items o }
-    ensures layout { IfOk result (λ r. IsNextLayout loaded.now.log_sectors loaded.now.manifest count (layout_of r)) }
+    ensures may_open { (o : Option OpenRegion)
+        × IsInLeastFree loaded.now.log_sectors (loaded.now.manifest.generation + 1) count
+        closed.items o }
+    ensures layout { IfOk result
+        (λ r. IsNextLayout loaded.now.log_sectors loaded.now.manifest count (layout_of r)) }
     ensures kept { IfOk result (λ r. r.closed.items ≡ closed.items) }
     ensures any_moment { IsTrue (D.medium device.old).lasting.tells → EachSince
-        (Leaves (IsOldOrNew (disk (D.medium device.old)) (Stands loaded.now.log_sectors (next_contents loaded.now.manifest closed.items count))))
+        (Leaves (IsOldOrNew (disk (D.medium device.old))
+        (Stands loaded.now.log_sectors
+        (next_contents loaded.now.manifest closed.items count))))
         (D.medium device.old).history (D.medium device.new).history }
     ensures installed { IsTrue (D.medium device.old).lasting.tells → OnOk result
-        (IsInstalled (disk (D.medium device.old)) (Stands loaded.now.log_sectors (next_contents loaded.now.manifest closed.items count)) (disk (D.medium device.new))) }
-    ensures refused { IfErr result (λ refusal. (refusal ≡ Refusal.NoMemory) ⊎ (refusal ≡ Refusal.Io)) }
+        (IsInstalled (disk (D.medium device.old))
+        (Stands loaded.now.log_sectors (next_contents loaded.now.manifest closed.items count))
+        (disk (D.medium device.new))) }
+    ensures refused { IfErr result
+        (λ refusal. (refusal ≡ Refusal.NoMemory) ⊎ (refusal ≡ Refusal.Io)) }
 
     // Unless a call of it failed, the device wasn't called.
-    ensures untouched { IfErr result (λ refusal. IsTrue (is_no_fault refusal) → device.new ≡ device.old) }
-    ensures made { OnOk result (CallsMade (sector_count (next_contents loaded.now.manifest closed.items count) + 1) 2 (D.medium device.old).calls (D.medium device.new).calls) }
+    ensures untouched { IfErr result
+        (λ refusal. IsTrue (is_no_fault refusal) → device.new ≡ device.old) }
+    ensures made { OnOk result
+        (CallsMade (sector_count (next_contents loaded.now.manifest closed.items count) + 1) 2
+        (D.medium device.old).calls (D.medium device.new).calls) }
     ensures calls { AtMost 0 42 2 (D.medium device.old).calls (D.medium device.new).calls }
-    ensures faults { (D.medium device.new).calls.faults ≡ faults_after (faultless result) (D.medium device.old).calls.faults }
-    ensures stops { IfErr result (λ refusal. refusal ≡ Refusal.Io → IsTrue (D.medium device.new).calls.last_faulted) }
+    ensures faults { (D.medium device.new).calls.faults
+        ≡ faults_after (faultless result) (D.medium device.old).calls.faults }
+    ensures stops { IfErr result
+        (λ refusal. refusal ≡ Refusal.Io → IsTrue (D.medium device.new).calls.last_faulted) }
     ensures same_size { (D.medium device.new).size ≡ (D.medium device.old).size }
     ensures same_lasting { (D.medium device.new).lasting ≡ (D.medium device.old).lasting }
 {

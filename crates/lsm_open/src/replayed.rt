@@ -40,7 +40,8 @@ fn insert_all<A: Allocator + Clone>(
     requires room { count + length batches.items ≤ 2 ^ 63 }
     ensures inserted { OnOk result (mem.new ≡ with_batches count batches.items mem.old) }
     ensures numbered { OnOk result (NumberedBelow (count + length batches.items + 1) mem.new) }
-    ensures entries { OnOk result (AllByRecursion IsEntry mem.old → AllByRecursion IsEntry mem.new) }
+    ensures entries { OnOk result
+        (AllByRecursion IsEntry mem.old → AllByRecursion IsEntry mem.new) }
 {
     let mut number = count;
     for batch in batches {
@@ -94,14 +95,24 @@ impl<A: Allocator + Clone> Replayed<A> {
         requires inside { first_region + 3 * log_sectors ≤ (D.medium device.old).size }
         requires numbered { NumberedBelow (self.old.count + 1) self.old.mem }
         requires count_high { self.old.count ≤ 2 ^ 63 }
-        ensures replayed { IfOk result (λ _. (batches : List (List Operation)) × HasReplayed listed.now batches self.old self.new
-            × (IsTrue (D.medium device.old).lasting.tells → batches ≡ batches_at log_sectors (seen (disk (D.medium device.old))) listed.now)) }
-        ensures refused { IfErr result (λ refusal. ((refusal ≡ Refusal.BadManifest) × (listed.now.first_batch ≢ self.old.count + 1))
+        ensures replayed { IfOk result
+            (λ _. (batches : List (List Operation))
+            × HasReplayed listed.now batches self.old self.new
+            × (IsTrue (D.medium device.old).lasting.tells
+            → batches ≡ batches_at log_sectors (seen (disk (D.medium device.old)))
+            listed.now)) }
+        ensures refused { IfErr result
+            (λ refusal. ((refusal ≡ Refusal.BadManifest)
+            × (listed.now.first_batch ≢ self.old.count + 1))
             ⊎ ((refusal ≡ Refusal.NoMemory) ⊎ (refusal ≡ Refusal.Io))) }
-        ensures unchanged { IsTrue (D.medium device.old).lasting.tells → (D.medium device.new).history ≡ (D.medium device.old).history }
-        ensures calls { AtMost log_sectors 0 0 (D.medium device.old).calls (D.medium device.new).calls }
-        ensures faults { (D.medium device.new).calls.faults ≡ faults_after (faultless result) (D.medium device.old).calls.faults }
-        ensures stops { IfErr result (λ refusal. refusal ≡ Refusal.Io → IsTrue (D.medium device.new).calls.last_faulted) }
+        ensures unchanged { IsTrue (D.medium device.old).lasting.tells
+            → (D.medium device.new).history ≡ (D.medium device.old).history }
+        ensures calls { AtMost log_sectors 0 0 (D.medium device.old).calls
+            (D.medium device.new).calls }
+        ensures faults { (D.medium device.new).calls.faults
+            ≡ faults_after (faultless result) (D.medium device.old).calls.faults }
+        ensures stops { IfErr result
+            (λ refusal. refusal ≡ Refusal.Io → IsTrue (D.medium device.new).calls.last_faulted) }
         ensures same_size { (D.medium device.new).size ≡ (D.medium device.old).size }
         ensures same_lasting { (D.medium device.new).lasting ≡ (D.medium device.old).lasting }
     {
@@ -133,12 +144,18 @@ impl<A: Allocator + Clone> Replayed<A> {
         ensures replayed { IsTrue (D.medium device.old).lasting.tells → OnOk result
             (GoesOn log_sectors (seen (disk (D.medium device.old))) manifest.now self.new []) }
         ensures refused { IfErr result (λ refusal. ((refusal ≡ Refusal.BadManifest)
-            × (IsTrue (D.medium device.old).lasting.tells → follow_on log_sectors (seen (disk (D.medium device.old))) (manifest.now.base + 1) manifest.now.logs ≡ false))
+            × (IsTrue (D.medium device.old).lasting.tells
+            → follow_on log_sectors (seen (disk (D.medium device.old)))
+            (manifest.now.base + 1) manifest.now.logs ≡ false))
             ⊎ ((refusal ≡ Refusal.NoMemory) ⊎ (refusal ≡ Refusal.Io))) }
-        ensures unchanged { IsTrue (D.medium device.old).lasting.tells → (D.medium device.new).history ≡ (D.medium device.old).history }
-        ensures calls { AtMost (3 * log_sectors) 0 0 (D.medium device.old).calls (D.medium device.new).calls }
-        ensures faults { (D.medium device.new).calls.faults ≡ faults_after (faultless result) (D.medium device.old).calls.faults }
-        ensures stops { IfErr result (λ refusal. refusal ≡ Refusal.Io → IsTrue (D.medium device.new).calls.last_faulted) }
+        ensures unchanged { IsTrue (D.medium device.old).lasting.tells
+            → (D.medium device.new).history ≡ (D.medium device.old).history }
+        ensures calls { AtMost (3 * log_sectors) 0 0 (D.medium device.old).calls
+            (D.medium device.new).calls }
+        ensures faults { (D.medium device.new).calls.faults
+            ≡ faults_after (faultless result) (D.medium device.old).calls.faults }
+        ensures stops { IfErr result
+            (λ refusal. refusal ≡ Refusal.Io → IsTrue (D.medium device.new).calls.last_faulted) }
         ensures same_size { (D.medium device.new).size ≡ (D.medium device.old).size }
         ensures same_lasting { (D.medium device.new).lasting ≡ (D.medium device.old).lasting }
     {
@@ -162,12 +179,18 @@ fn replay_region<A: Allocator + Clone, D: Device>(
     requires inside { first_region + 3 * log_sectors ≤ (D.medium device.old).size }
     ensures replayed { IsTrue (D.medium device.old).lasting.tells → IfOk result (λ batches.
         batches.items ≡ batches_at log_sectors (seen (disk (D.medium device.old))) listed.now) }
-    ensures numbers { IfOk result (λ batches. 1 ≤ length batches.items → listed.now.first_batch + length batches.items ≤ 2 ^ 63 + 1) }
-    ensures refused { IfErr result (λ refusal. (refusal ≡ Refusal.NoMemory) ⊎ (refusal ≡ Refusal.Io)) }
-    ensures unchanged { IsTrue (D.medium device.old).lasting.tells → (D.medium device.new).history ≡ (D.medium device.old).history }
+    ensures numbers { IfOk result
+        (λ batches. 1 ≤ length batches.items
+        → listed.now.first_batch + length batches.items ≤ 2 ^ 63 + 1) }
+    ensures refused { IfErr result
+        (λ refusal. (refusal ≡ Refusal.NoMemory) ⊎ (refusal ≡ Refusal.Io)) }
+    ensures unchanged { IsTrue (D.medium device.old).lasting.tells
+        → (D.medium device.new).history ≡ (D.medium device.old).history }
     ensures calls { AtMost log_sectors 0 0 (D.medium device.old).calls (D.medium device.new).calls }
-    ensures faults { (D.medium device.new).calls.faults ≡ faults_after (faultless result) (D.medium device.old).calls.faults }
-    ensures stops { IfErr result (λ refusal. refusal ≡ Refusal.Io → IsTrue (D.medium device.new).calls.last_faulted) }
+    ensures faults { (D.medium device.new).calls.faults
+        ≡ faults_after (faultless result) (D.medium device.old).calls.faults }
+    ensures stops { IfErr result
+        (λ refusal. refusal ≡ Refusal.Io → IsTrue (D.medium device.new).calls.last_faulted) }
     ensures same_size { (D.medium device.new).size ≡ (D.medium device.old).size }
     ensures same_lasting { (D.medium device.new).lasting ≡ (D.medium device.old).lasting }
 {
@@ -202,12 +225,18 @@ pub fn replay_regions<A: Allocator + Clone, D: Device>(
     ensures replayed { IsTrue (D.medium device.old).lasting.tells → IfOk result (λ r.
         GoesOn log_sectors (seen (disk (D.medium device.old))) manifest.now r []) }
     ensures refused { IfErr result (λ refusal. ((refusal ≡ Refusal.BadManifest)
-        × (IsTrue (D.medium device.old).lasting.tells → follow_on log_sectors (seen (disk (D.medium device.old))) (manifest.now.base + 1) manifest.now.logs ≡ false))
+        × (IsTrue (D.medium device.old).lasting.tells
+        → follow_on log_sectors (seen (disk (D.medium device.old)))
+        (manifest.now.base + 1) manifest.now.logs ≡ false))
         ⊎ ((refusal ≡ Refusal.NoMemory) ⊎ (refusal ≡ Refusal.Io))) }
-    ensures unchanged { IsTrue (D.medium device.old).lasting.tells → (D.medium device.new).history ≡ (D.medium device.old).history }
-    ensures calls { AtMost (3 * log_sectors) 0 0 (D.medium device.old).calls (D.medium device.new).calls }
-    ensures faults { (D.medium device.new).calls.faults ≡ faults_after (faultless result) (D.medium device.old).calls.faults }
-    ensures stops { IfErr result (λ refusal. refusal ≡ Refusal.Io → IsTrue (D.medium device.new).calls.last_faulted) }
+    ensures unchanged { IsTrue (D.medium device.old).lasting.tells
+        → (D.medium device.new).history ≡ (D.medium device.old).history }
+    ensures calls { AtMost (3 * log_sectors) 0 0 (D.medium device.old).calls
+        (D.medium device.new).calls }
+    ensures faults { (D.medium device.new).calls.faults
+        ≡ faults_after (faultless result) (D.medium device.old).calls.faults }
+    ensures stops { IfErr result
+        (λ refusal. refusal ≡ Refusal.Io → IsTrue (D.medium device.new).calls.last_faulted) }
     ensures same_size { (D.medium device.new).size ≡ (D.medium device.old).size }
     ensures same_lasting { (D.medium device.new).lasting ≡ (D.medium device.old).lasting }
 {

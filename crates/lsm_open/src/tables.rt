@@ -49,7 +49,8 @@ pub(crate) fn read_data_block<D: Device>(
     out: &mut [u8; 4_096],
 ) -> Result<(), Refusal>
     requires { area + 8 * (block + 1) ≤ (D.medium device.old).size }
-    ensures given { IsTrue (D.medium device.old).lasting.tells → OnOk result (out.new ≡ block_at (seen (disk (D.medium device.old))) (area + 8 * block)) }
+    ensures given { IsTrue (D.medium device.old).lasting.tells
+        → OnOk result (out.new ≡ block_at (seen (disk (D.medium device.old))) (area + 8 * block)) }
     ensures refused { IfErr result (λ refusal. refusal ≡ Refusal.Io) }
     ensures device { ReadsBlocks 1 (faultless result) (D.medium device.old) (D.medium device.new) }
 {
@@ -68,9 +69,12 @@ fn read_data_blocks<A: Allocator, D: Device>(
     requires inside { area + 8 * (first + blocks) ≤ (D.medium device.old).size }
     requires few { blocks ≤ 5 }
     ensures given { IsTrue (D.medium device.old).lasting.tells → IfOk result (λ bytes.
-        bytes.items ≡ flat_map (λ b. b) (blocks_from (seen (disk (D.medium device.old))) (area + 8 * first) blocks)) }
-    ensures refused { IfErr result (λ refusal. (refusal ≡ Refusal.NoMemory) ⊎ (refusal ≡ Refusal.Io)) }
-    ensures device { ReadsBlocks blocks (faultless result) (D.medium device.old) (D.medium device.new) }
+        bytes.items ≡ flat_map (λ b. b)
+        (blocks_from (seen (disk (D.medium device.old))) (area + 8 * first) blocks)) }
+    ensures refused { IfErr result
+        (λ refusal. (refusal ≡ Refusal.NoMemory) ⊎ (refusal ≡ Refusal.Io)) }
+    ensures device { ReadsBlocks blocks (faultless result) (D.medium device.old)
+        (D.medium device.new) }
 {
     let mut bytes = Vec::with_capacity(alloc, BLOCK_BYTES * blocks as usize)?;
     let mut block = [0; BLOCK_BYTES];
@@ -93,9 +97,13 @@ fn read_described<A: Allocator + Clone, D: Device>(
     requires log_high { log_sectors ≤ 2048 }
     requires readable { IsReadable log_sectors (D.medium device.old).size listed }
     ensures given { IsTrue (D.medium device.old).lasting.tells → IfOk result (λ index.
-        outline_of listed footer.new index.items filter.new ≡ outline_at listed (blocks_at log_sectors (seen (disk (D.medium device.old))) listed)) }
-    ensures refused { IfErr result (λ refusal. (refusal ≡ Refusal.NoMemory) ⊎ (refusal ≡ Refusal.Io)) }
-    ensures device { ReadsBlocks (listed.index_blocks + 2) (faultless result) (D.medium device.old) (D.medium device.new) }
+        outline_of listed footer.new index.items filter.new
+        ≡ outline_at listed
+        (blocks_at log_sectors (seen (disk (D.medium device.old))) listed)) }
+    ensures refused { IfErr result
+        (λ refusal. (refusal ≡ Refusal.NoMemory) ⊎ (refusal ≡ Refusal.Io)) }
+    ensures device { ReadsBlocks (listed.index_blocks + 2) (faultless result) (D.medium device.old)
+        (D.medium device.new) }
 {
     let area = data_area(log_sectors);
     let filter_at = listed.first_block + listed.data_blocks as u32;
@@ -121,7 +129,8 @@ fn read_table<A: Allocator + Clone, D: Device>(
         (IsRefusedFor (told_with versions log_sectors (seen (disk (D.medium device.old))) listed)) }
     ensures named { IfOk result (IsNamedBy listed) }
     ensures refused { IfErr result IsTableRefusal }
-    ensures device { ReadsBlocks (listed.index_blocks + 2) (faultless result) (D.medium device.old) (D.medium device.new) }
+    ensures device { ReadsBlocks (listed.index_blocks + 2) (faultless result) (D.medium device.old)
+        (D.medium device.new) }
 {
     outline_law();
     let Some(deletes) = listed.deletes else {
@@ -143,11 +152,13 @@ fn read_listed<A: Allocator + Clone, D: Device>(
     requires log_high { log_sectors ≤ 2048 }
     requires readable { All (IsReadable log_sectors (D.medium device.old).size) listed.now }
     ensures told { IsTrue (D.medium device.old).lasting.tells → MatchResult result
-        (λ tables. told_tables log_sectors (seen (disk (D.medium device.old))) listed.now ≡ Some tables.items)
+        (λ tables. told_tables log_sectors (seen (disk (D.medium device.old))) listed.now
+        ≡ Some tables.items)
         (IsRefusedFor (told_tables log_sectors (seen (disk (D.medium device.old))) listed.now)) }
     ensures named { IfOk result (λ tables. AreNamedBy listed.now tables.items) }
     ensures refused { IfErr result IsTableRefusal }
-    ensures device { ReadsBlocks (blocks_beside_data listed.now) (faultless result) (D.medium device.old) (D.medium device.new) }
+    ensures device { ReadsBlocks (blocks_beside_data listed.now) (faultless result)
+        (D.medium device.old) (D.medium device.new) }
 {
     let mut tables = Vec::with_capacity(alloc.clone()?, listed.len())?;
     for table in listed {
@@ -172,7 +183,8 @@ fn push_if<A: Allocator>(
     is_wanted: bool,
     table: TableRecord,
 ) -> Result<(), AllocError>
-    ensures { OnOk result (listed.new.items ≡ listed.old.items ++ filter (λ t. is_wanted) (table ∷ [])) }
+    ensures { OnOk result (listed.new.items
+        ≡ listed.old.items ++ filter (λ t. is_wanted) (table ∷ [])) }
 {
     if is_wanted {
         listed.push(table)?;
@@ -206,11 +218,17 @@ fn read_run<A: Allocator + Clone, D: Device>(
     place: usize,
 ) -> Result<Run<A>, Refusal>
     requires log_high { log_sectors ≤ 2048 }
-    requires readable { All (IsReadable log_sectors (D.medium device.old).size) manifest.now.tables }
-    ensures read { IfOk result (IsRunRead log_sectors (D.medium device.old).lasting.tells (seen (disk (D.medium device.old))) manifest.now place) }
-    ensures none { IsTrue (D.medium device.old).lasting.tells → IfErr result (IsRefusedFor (told_run log_sectors (seen (disk (D.medium device.old))) manifest.now place)) }
+    requires readable { All (IsReadable log_sectors (D.medium device.old).size)
+        manifest.now.tables }
+    ensures read { IfOk result
+        (IsRunRead log_sectors (D.medium device.old).lasting.tells
+        (seen (disk (D.medium device.old))) manifest.now place) }
+    ensures none { IsTrue (D.medium device.old).lasting.tells
+        → IfErr result (IsRefusedFor
+        (told_run log_sectors (seen (disk (D.medium device.old))) manifest.now place)) }
     ensures refused { IfErr result IsTableRefusal }
-    ensures device { ReadsBlocks (blocks_beside_data (run_records manifest.now place)) (faultless result) (D.medium device.old) (D.medium device.new) }
+    ensures device { ReadsBlocks (blocks_beside_data (run_records manifest.now place))
+        (faultless result) (D.medium device.old) (D.medium device.new) }
 {
     let listed = run_records(alloc.clone()?, manifest, place)?;
     let tables = read_listed(alloc, device, log_sectors, &listed)?;
@@ -228,13 +246,19 @@ fn read_deeper<A: Allocator + Clone, D: Device>(
     manifest: &Manifest<A>,
 ) -> Result<Levels<A>, Refusal>
     requires log_high { log_sectors ≤ 2048 }
-    requires readable { All (IsReadable log_sectors (D.medium device.old).size) manifest.now.tables }
+    requires readable { All (IsReadable log_sectors (D.medium device.old).size)
+        manifest.now.tables }
     ensures runs { IfOk result (λ levels. levels.runs ≡ []) }
     ensures four { IfOk result (λ levels. length levels.deeper ≡ 4) }
-    ensures read { IfOk result (λ levels. AreRunsRead log_sectors (D.medium device.old).lasting.tells (seen (disk (D.medium device.old))) manifest.now manifest.now.runs levels.deeper) }
-    ensures none { IsTrue (D.medium device.old).lasting.tells → IfErr result (IsRefusedFor (told_levels log_sectors (seen (disk (D.medium device.old))) manifest.now)) }
+    ensures read { IfOk result
+        (λ levels. AreRunsRead log_sectors (D.medium device.old).lasting.tells
+        (seen (disk (D.medium device.old))) manifest.now manifest.now.runs levels.deeper) }
+    ensures none { IsTrue (D.medium device.old).lasting.tells
+        → IfErr result (IsRefusedFor
+        (told_levels log_sectors (seen (disk (D.medium device.old))) manifest.now)) }
     ensures refused { IfErr result IsTableRefusal }
-    ensures device { ReadsBlocks (beside_data_from manifest.now manifest.now.runs) (faultless result) (D.medium device.old) (D.medium device.new) }
+    ensures device { ReadsBlocks (beside_data_from manifest.now manifest.now.runs)
+        (faultless result) (D.medium device.old) (D.medium device.new) }
 {
     let runs = manifest.runs() as usize;
     let mut levels = Levels::new(alloc.clone()?)?;
@@ -255,16 +279,25 @@ fn read_newer<A: Allocator + Clone, D: Device>(
     levels: &mut Levels<A>,
 ) -> Result<(), Refusal>
     requires log_high { log_sectors ≤ 2048 }
-    requires readable { All (IsReadable log_sectors (D.medium device.old).size) manifest.now.tables }
+    requires readable { All (IsReadable log_sectors (D.medium device.old).size)
+        manifest.now.tables }
     requires has { HasRuns manifest.now.runs manifest.now.tables }
     requires none { levels.old.runs ≡ [] }
-    requires deeper { AreRunsRead log_sectors (D.medium device.old).lasting.tells (seen (disk (D.medium device.old))) manifest.now manifest.now.runs levels.old.deeper }
+    requires deeper { AreRunsRead log_sectors (D.medium device.old).lasting.tells
+        (seen (disk (D.medium device.old))) manifest.now manifest.now.runs levels.old.deeper }
     ensures runs { OnOk result (length levels.new.runs ≡ manifest.now.runs) }
     ensures same { levels.new.deeper ≡ levels.old.deeper }
-    ensures read { OnOk result (AreRunsRead log_sectors (D.medium device.old).lasting.tells (seen (disk (D.medium device.old))) manifest.now 0 (places levels.new)) }
-    ensures none { IsTrue (D.medium device.old).lasting.tells → IfErr result (IsRefusedFor (told_levels log_sectors (seen (disk (D.medium device.old))) manifest.now)) }
+    ensures read { OnOk result
+        (AreRunsRead log_sectors (D.medium device.old).lasting.tells
+        (seen (disk (D.medium device.old))) manifest.now 0 (places levels.new)) }
+    ensures none { IsTrue (D.medium device.old).lasting.tells
+        → IfErr result (IsRefusedFor
+        (told_levels log_sectors (seen (disk (D.medium device.old))) manifest.now)) }
     ensures refused { IfErr result IsTableRefusal }
-    ensures device { (reads : ℕ) × (reads + beside_data_from manifest.now manifest.now.runs ≤ blocks_beside_data manifest.now.tables) × ReadsBlocks reads (faultless result) (D.medium device.old) (D.medium device.new) }
+    ensures device { (reads : ℕ)
+        × (reads + beside_data_from manifest.now manifest.now.runs
+        ≤ blocks_beside_data manifest.now.tables)
+        × ReadsBlocks reads (faultless result) (D.medium device.old) (D.medium device.new) }
 {
     let runs = manifest.runs() as usize;
     for done in 0..runs {
@@ -320,32 +353,45 @@ pub fn read_tables<A: Allocator + Clone, D: Device>(
     // Of any sectors: Ok exactly where each table is told and each run is one, with just these levels; BadTable exactly where
     // not.
     ensures told { IsTrue (D.medium device.old).lasting.tells → MatchResult result
-        (λ t. told_levels log_sectors (seen (disk (D.medium device.old))) manifest.now ≡ Some t.levels)
+        (λ t. told_levels log_sectors (seen (disk (D.medium device.old))) manifest.now
+        ≡ Some t.levels)
         (IsRefusedFor (told_levels log_sectors (seen (disk (D.medium device.old))) manifest.now)) }
 
     // Whatever the device holds, and whether it tells so or not, levels have just the tables that the manifest names, in runs,
     // these lie within the device, each is that of its outline, and their extents are handed out alone.
     ensures named { IfOk result (λ t. HaveNamed manifest.now t.levels) }
     ensures runs { IfOk result (λ t. AreRuns t.levels) }
-    ensures within { IfOk result (λ t. AreWithin (D.medium device.old).size (first_data log_sectors) (places t.levels)) }
+    ensures within { IfOk result
+        (λ t. AreWithin (D.medium device.old).size (first_data log_sectors) (places t.levels)) }
     ensures outlined { IfOk result (λ t. AreOutlined (places t.levels)) }
-    ensures numbered { IfOk result (λ t. AreNumberedBelow manifest.now.next_table (places t.levels)) }
-    ensures extents { IfOk result (λ t. Held (data_blocks_of (D.medium device.old).size log_sectors) manifest.now.tables t.extents) }
+    ensures numbered { IfOk result
+        (λ t. AreNumberedBelow manifest.now.next_table (places t.levels)) }
+    ensures extents { IfOk result
+        (λ t. Held (data_blocks_of (D.medium device.old).size log_sectors) manifest.now.tables
+        t.extents) }
 
     // Tables that stand are not refused so, and they stand in the levels, in the order of versions.
-    ensures stored { IsTrue (D.medium device.old).lasting.tells → AreTables log_sectors manifest.now.base manifest.now.tables (seen (disk (D.medium device.old)))
+    ensures stored { IsTrue (D.medium device.old).lasting.tells
+        → AreTables log_sectors manifest.now.base manifest.now.tables
+        (seen (disk (D.medium device.old)))
         → MatchResult result
-        (λ t. AreThose log_sectors manifest.now.base (seen (disk (D.medium device.old))) manifest.now.tables t.levels)
+        (λ t. AreThose log_sectors manifest.now.base (seen (disk (D.medium device.old)))
+        manifest.now.tables t.levels)
         (λ e. (e ≡ Refusal.NoMemory) ⊎ (e ≡ Refusal.Io)) }
     ensures refused { IfErr result IsTableRefusal }
 
     // The device is only read: filter, index and footer of each table at most once. It fails with Io only after a read that
     // faulted, its last.
-    ensures reads { AtMost (8 * blocks_beside_data manifest.now.tables) 0 0 (D.medium device.old).calls (D.medium device.new).calls }
-    ensures unchanged { IsTrue (D.medium device.old).lasting.tells → (D.medium device.new).history ≡ (D.medium device.old).history }
-    ensures calls { AtMost (56 * length manifest.now.tables) 0 0 (D.medium device.old).calls (D.medium device.new).calls }
-    ensures faults { (D.medium device.new).calls.faults ≡ faults_after (faultless result) (D.medium device.old).calls.faults }
-    ensures stops { IfErr result (λ refusal. refusal ≡ Refusal.Io → IsTrue (D.medium device.new).calls.last_faulted) }
+    ensures reads { AtMost (8 * blocks_beside_data manifest.now.tables) 0 0
+        (D.medium device.old).calls (D.medium device.new).calls }
+    ensures unchanged { IsTrue (D.medium device.old).lasting.tells
+        → (D.medium device.new).history ≡ (D.medium device.old).history }
+    ensures calls { AtMost (56 * length manifest.now.tables) 0 0 (D.medium device.old).calls
+        (D.medium device.new).calls }
+    ensures faults { (D.medium device.new).calls.faults
+        ≡ faults_after (faultless result) (D.medium device.old).calls.faults }
+    ensures stops { IfErr result
+        (λ refusal. refusal ≡ Refusal.Io → IsTrue (D.medium device.new).calls.last_faulted) }
     ensures same_size { (D.medium device.new).size ≡ (D.medium device.old).size }
     ensures same_lasting { (D.medium device.new).lasting ≡ (D.medium device.old).lasting }
 {

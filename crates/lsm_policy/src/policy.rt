@@ -71,7 +71,9 @@ impl Policy {
 
     /// Whether room is scarce with `free_blocks` blocks free: less than half of them, or there are too many tables.
     pub fn is_scarce<A: Allocator>(&self, levels: &Levels<A>, free_blocks: u32) -> bool
-        ensures { result ≡ (ltb free_blocks (taken_blocks levels.now) || ltb self.now.most_tables (table_count levels.now)) }
+        ensures { result
+            ≡ (ltb free_blocks (taken_blocks levels.now)
+            || ltb self.now.most_tables (table_count levels.now)) }
     {
         !takes_at_most(levels, u64::from(free_blocks)) || !has_at_most(levels, self.most_tables)
     }
@@ -80,7 +82,9 @@ impl Policy {
     /// free; and no more tables than [`most_tables`](Policy::most_tables). Refusing puts at this point keeps space for deletes, which
     /// need a table first. No clause says that it is enough: `lsm_room` reckons more closely.
     pub fn has_room<A: Allocator>(&self, levels: &Levels<A>, free_blocks: u32) -> bool
-        ensures { result ≡ (nat_le (taken_blocks levels.now) (self.now.taken_for_each_free * free_blocks) && nat_le (table_count levels.now) self.now.most_tables) }
+        ensures { result
+            ≡ (nat_le (taken_blocks levels.now) (self.now.taken_for_each_free * free_blocks)
+            && nat_le (table_count levels.now) self.now.most_tables) }
     {
         let most_blocks = u64::from(self.taken_for_each_free) * u64::from(free_blocks);
         takes_at_most(levels, most_blocks) && has_at_most(levels, self.most_tables)
@@ -102,7 +106,8 @@ impl Policy {
         free_blocks: u32,
         held: &H,
     ) -> Option<Choice>
-        ensures { IfSome result (λ choice. fits levels.now (H.jobs held.now) free_blocks choice ≡ true) }
+        ensures { IfSome result
+            (λ choice. fits levels.now (H.jobs held.now) free_blocks choice ≡ true) }
     {
         let bounds = Bounds {
             joins: !held.has_merge(),

@@ -188,10 +188,15 @@ impl<'a, H: HeldJobs, A: Allocator> Standing<'a, H, A> {
     /// with both. For deletes alone less is required, and more are admitted where puts find room too. Where memory was empty, puts are
     /// admitted unless the store is crowded.
     pub fn admits(&self, memory: InMemory, puts: bool) -> bool
-        ensures crowded { result ≡ false → memory.before.entries ≡ 0 → memory.waiting ≡ no_size → puts ≡ true → IsCrowded (taken_blocks self.now.levels.now) (free_count self.now.extents.now) (table_count self.now.levels.now) (blocks_for memory.after.bytes memory.after.entries) }
+        ensures crowded { result ≡ false → memory.before.entries ≡ 0 → memory.waiting ≡ no_size
+            → puts ≡ true → IsCrowded (taken_blocks self.now.levels.now)
+            (free_count self.now.extents.now) (table_count self.now.levels.now)
+            (blocks_for memory.after.bytes memory.after.entries) }
 
         // Whatever is admitted, a hundred blocks stay free after the flushes.
-        ensures room { result ≡ true → FlushesLeave 100 (free_count self.now.extents.now) self.now.live memory.waiting memory.after }
+        ensures room { result ≡ true
+            → FlushesLeave 100 (free_count self.now.extents.now) self.now.live memory.waiting
+            memory.after }
     {
         let after = counted(memory.after, self.live);
         let taken = self.taken();
@@ -210,8 +215,13 @@ impl<'a, H: HeldJobs, A: Allocator> Standing<'a, H, A> {
     // Whether what puts leave is free once all is in the last level, with memory and a batch, and after its flush what steps need.
     fn has_room_for(&self, memory: InMemory, taken: u64) -> bool
         requires { taken ≡ min (taken_blocks self.now.levels.now) 18446744073709551615 }
-        ensures crowded { result ≡ false → memory.waiting ≡ no_size → IsCrowded (taken_blocks self.now.levels.now) (free_count self.now.extents.now) (table_count self.now.levels.now) (blocks_for memory.after.bytes memory.after.entries) }
-        ensures room { result ≡ true → FlushesLeave 100 (free_count self.now.extents.now) self.now.live memory.waiting memory.after }
+        ensures crowded { result ≡ false → memory.waiting ≡ no_size
+            → IsCrowded (taken_blocks self.now.levels.now) (free_count self.now.extents.now)
+            (table_count self.now.levels.now)
+            (blocks_for memory.after.bytes memory.after.entries) }
+        ensures room { result ≡ true
+            → FlushesLeave 100 (free_count self.now.extents.now) self.now.live memory.waiting
+            memory.after }
     {
         let after = counted(memory.after, self.live);
         let reserve = Reserve::of(taken.saturating_add(self.free()));
@@ -232,7 +242,8 @@ impl<'a, H: HeldJobs, A: Allocator> Standing<'a, H, A> {
     /// Whether the memtable may become as large as `most` by any puts and deletes: then each batch that keeps it within is admitted, as
     /// long as the tables, the free blocks and what waits are the same.
     pub fn admits_up_to(&self, memory: InMemory, most: MemSize) -> bool
-        ensures { result ≡ true → FlushesLeave 100 (free_count self.now.extents.now) self.now.live memory.waiting most }
+        ensures { result ≡ true
+            → FlushesLeave 100 (free_count self.now.extents.now) self.now.live memory.waiting most }
     {
         let puts = MemSize {
             deletes: memory.before.deletes,
@@ -265,7 +276,9 @@ impl<'a, H: HeldJobs, A: Allocator> Standing<'a, H, A> {
 
     /// Whether the reserve of puts and the blocks to spare are free.
     pub fn has_spare(&self) -> bool
-        ensures { result ≡ false → IsCrowded (taken_blocks self.now.levels.now) (free_count self.now.extents.now) (table_count self.now.levels.now) 0 }
+        ensures { result ≡ false
+            → IsCrowded (taken_blocks self.now.levels.now) (free_count self.now.extents.now)
+            (table_count self.now.levels.now) 0 }
     {
         let reserve = self.reserve();
         self.free() >= reserve.for_puts().saturating_add(reserve.to_spare())
@@ -273,8 +286,12 @@ impl<'a, H: HeldJobs, A: Allocator> Standing<'a, H, A> {
 
     // Whether the flushes leave what steps need.
     fn leaves_flushes(&self, memory: InMemory, reserve: Reserve) -> bool
-        ensures crowded { result ≡ false → memory.waiting ≡ no_size → free_count self.now.extents.now < 6 * div_ceil memory.after.bytes 4094 + 6 * (memory.after.entries / 3200) + 220 }
-        ensures room { result ≡ true → FlushesLeave 100 (free_count self.now.extents.now) self.now.live memory.waiting memory.after }
+        ensures crowded { result ≡ false → memory.waiting ≡ no_size
+            → free_count self.now.extents.now
+            < 6 * div_ceil memory.after.bytes 4094 + 6 * (memory.after.entries / 3200) + 220 }
+        ensures room { result ≡ true
+            → FlushesLeave 100 (free_count self.now.extents.now) self.now.live memory.waiting
+            memory.after }
     {
         let first = flush_outputs(memory.waiting, self.live);
         let second = flush_outputs(memory.after, self.live);
@@ -287,7 +304,9 @@ impl<'a, H: HeldJobs, A: Allocator> Standing<'a, H, A> {
 
     // Whether the memtable may have deletes alone: they are few, and the flushes leave what steps need.
     fn admits_deletes(&self, memory: InMemory, reserve: Reserve) -> bool
-        ensures { result ≡ true → FlushesLeave 100 (free_count self.now.extents.now) self.now.live memory.waiting memory.after }
+        ensures { result ≡ true
+            → FlushesLeave 100 (free_count self.now.extents.now) self.now.live memory.waiting
+            memory.after }
     {
         self.leaves_flushes(memory, reserve)
             && delete_blocks(memory.after) <= DELETE_BLOCKS
@@ -297,14 +316,19 @@ impl<'a, H: HeldJobs, A: Allocator> Standing<'a, H, A> {
 
     // Whether `blocks` blocks are left once all tables and memory are in the last level.
     fn leaves(&self, memory: MemSize, area: u64, blocks: u64) -> bool
-        ensures { result ≡ false → 8 * free_count self.now.extents.now < 9 * taken_blocks self.now.levels.now + 18 * div_ceil memory.bytes 4094 + 33 * (table_count self.now.levels.now + memory.entries / 3200) + 83 + 8 * blocks }
+        ensures { result ≡ false
+            → 8 * free_count self.now.extents.now
+            < 9 * taken_blocks self.now.levels.now + 18 * div_ceil memory.bytes 4094
+            + 33 * (table_count self.now.levels.now + memory.entries / 3200) + 83 + 8 * blocks }
     {
         self.growth(memory, area).saturating_add(blocks) <= self.free()
     }
 
     // By how many blocks all tables and memory grow at most until all is in the last level.
     fn growth(&self, memory: MemSize, area: u64) -> u64
-        ensures { 8 * result ≤ 9 * taken_blocks self.now.levels.now + 18 * div_ceil memory.bytes 4094 + 33 * (table_count self.now.levels.now + memory.entries / 3200) + 83 }
+        ensures { 8 * result ≤ 9 * taken_blocks self.now.levels.now
+            + 18 * div_ceil memory.bytes 4094
+            + 33 * (table_count self.now.levels.now + memory.entries / 3200) + 83 }
     {
         let above = Sizes::none().with_runs(self.levels.runs());
         let deeper = self.levels.deeper();
@@ -323,7 +347,8 @@ impl<'a, H: HeldJobs, A: Allocator> Standing<'a, H, A> {
 
 // By how many blocks tables above the last level, those in it and memory grow at most.
 fn grown(above: Sizes, below: Sizes, memory: MemSize) -> u64
-    ensures { 8 * result ≤ 9 * (above.«data» + below.«data») + 18 * div_ceil memory.bytes 4094 + 33 * (above.entries / 3200 + memory.entries / 3200) + 83 }
+    ensures { 8 * result ≤ 9 * (above.«data» + below.«data») + 18 * div_ceil memory.bytes 4094
+        + 33 * (above.entries / 3200 + memory.entries / 3200) + 83 }
 {
     let charge = charge_of(memory);
     if charge == 0 && above.entries == 0 {

@@ -183,7 +183,8 @@ pub(crate) fn data_of<A: Allocator>(table: &PlacedTable<A>) -> u64
 /// The blocks of `tables` images of `data` data blocks in all, each with an index, a filter and a footer.
 pub(crate) fn blocks_with(data: u64, tables: u64) -> u64
     ensures most { result ≤ «data» + 264 * «data» / 4096 + 1 + 3 * tables }
-    ensures least { result < 4294967296 → «data» + (div_ceil (264 * «data») 4096 + 3 * tables) ≤ result }
+    ensures least { result < 4294967296
+        → «data» + (div_ceil (264 * «data») 4096 + 3 * tables) ≤ result }
 {
     let index = data.saturating_mul(INDEX_BYTES).div_ceil(BLOCK);
     data.saturating_add(index)
@@ -202,7 +203,8 @@ pub(crate) fn tables_of(data: u64, entries: u64) -> u64
 /// The data blocks that entries take at most in any division, where they take `data` in one, and none has more than `largest` bytes.
 pub(crate) fn packed(data: u64, largest: u64) -> u64
     ensures most { result ≤ 2 * «data» + 1 }
-    ensures small { result < 4294967296 → largest ≤ 2047 → (4094 * «data») / (4095 - largest) + 1 ≤ result }
+    ensures small { result < 4294967296 → largest ≤ 2047
+        → (4094 * «data») / (4095 - largest) + 1 ≤ result }
     ensures any { result < 4294967296 → 2047 < largest → 2 * «data» + 1 ≤ result }
     ensures some { 0 < result }
 {
@@ -217,7 +219,8 @@ pub(crate) fn packed(data: u64, largest: u64) -> u64
 /// The data blocks that `entries` entries take at most, where none has more than `largest` bytes: each block but the last has as many as of
 /// the largest fit.
 pub(crate) fn filled(entries: u64, largest: u64) -> u64
-    ensures small { result < 4294967296 → 0 < largest → largest ≤ 4094 → entries / (4094 / largest) + 1 ≤ result }
+    ensures small { result < 4294967296 → 0 < largest → largest ≤ 4094
+        → entries / (4094 / largest) + 1 ≤ result }
     ensures any { result < 4294967296 → 4094 < largest → entries + 1 ≤ result }
     ensures some { 0 < result }
 {
@@ -262,7 +265,8 @@ fn outputs_with(data: u64, entries: u64, live: bool) -> Outputs
 /// The outputs of `data` data blocks and `entries` entries: where that is one image, just its data blocks, index, filter and footer.
 pub(crate) fn outputs_for(data: u64, entries: u64, live: bool) -> Outputs
     ensures enough { AreEnoughFor live «data» entries result }
-    ensures few { result.blocks < 4294967296 → («data» < 4294967296) × (entries < 18446744073709551614) }
+    ensures few { result.blocks < 4294967296
+        → («data» < 4294967296) × (entries < 18446744073709551614) }
 {
     let outputs = outputs_with(data, entries, live);
     if outputs.tables > 1 {
@@ -279,7 +283,8 @@ pub(crate) fn outputs_for(data: u64, entries: u64, live: bool) -> Outputs
 /// What a flush of memory takes at most, where a snapshot is live or none is.
 pub fn flush_outputs(memory: MemSize, live: bool) -> Outputs
     ensures takes { FlushTakes live memory result }
-    ensures few { result.blocks ≤ 6 * div_ceil memory.bytes 4094 + 6 * (memory.entries / 3200) + 20 }
+    ensures few { result.blocks ≤ 6 * div_ceil memory.bytes 4094 + 6 * (memory.entries / 3200)
+        + 20 }
     ensures none { memory.entries ≡ 0 → result.blocks ≡ 0 }
 {
     if memory.entries == 0 {
@@ -355,7 +360,10 @@ fn drops_deletes<A: Allocator>(levels: &Levels<A>, job: &Pick<'_, A>, live: bool
 
 /// The outputs of a job, undivided, where a snapshot is live or none is.
 pub(crate) fn outputs_of<A: Allocator>(levels: &Levels<A>, job: &Pick<'_, A>, live: bool) -> Outputs
-    ensures { result.blocks < 4294967296 → IsHeld levels.now (is_bottom levels.now (job_of job.now)) (job_of job.now) → is_flush (job_of job.now) ≡ false → MakesAtMost levels.now live (job_of job.now) [] result.blocks result.largest }
+    ensures { result.blocks < 4294967296
+        → IsHeld levels.now (is_bottom levels.now (job_of job.now)) (job_of job.now)
+        → is_flush (job_of job.now) ≡ false
+        → MakesAtMost levels.now live (job_of job.now) [] result.blocks result.largest }
 {
     let _runs = levels.runs();
     let drops = drops_deletes(levels, job, live);

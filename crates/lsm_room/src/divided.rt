@@ -33,7 +33,10 @@ pub(crate) fn outputs_at<A: Allocator>(
     divisions: &[Key<A>],
     live: bool,
 ) -> Option<Outputs>
-    ensures { IfSome result (λ o. o.blocks < 4294967296 → IsHeld levels.now (is_bottom levels.now (job_of job.now)) (job_of job.now) → is_flush (job_of job.now) ≡ false → MakesAtMost levels.now live (job_of job.now) divisions.now o.blocks o.largest) }
+    ensures { IfSome result (λ o. o.blocks < 4294967296
+        → IsHeld levels.now (is_bottom levels.now (job_of job.now)) (job_of job.now)
+        → is_flush (job_of job.now) ≡ false
+        → MakesAtMost levels.now live (job_of job.now) divisions.now o.blocks o.largest) }
 {
     match divisions {
         [] => Some(outputs_of(levels, job, live)),
@@ -44,7 +47,8 @@ pub(crate) fn outputs_at<A: Allocator>(
 
 // Those of a job that rewrites one table, cut at a key.
 fn cut_outputs<A: Allocator>(job: &Pick<'_, A>, key: &Key<A>, live: bool) -> Option<Outputs>
-    ensures { IfSome result (λ o. o.blocks < 4294967296 → (levels : Contents) → MakesAtMost levels live (job_of job.now) (key.now ∷ []) o.blocks o.largest) }
+    ensures { IfSome result (λ o. o.blocks < 4294967296 → (levels : Contents)
+        → MakesAtMost levels live (job_of job.now) (key.now ∷ []) o.blocks o.largest) }
 {
     let table = rewritten(job)?;
     Some(parts_of(table, key.as_slice(), live))

@@ -105,8 +105,10 @@ impl<'a, H: HeldJobs, A: Allocator> Standing<'a, H, A> {
 
     /// Whether outputs are sure to find room, in blocks and among the tables, of which `gone` are removed.
     pub(crate) fn places(&self, outputs: Outputs, gone: u64) -> bool
-        ensures room { result ≡ true → SurelyFit self.now.extents.now outputs.blocks outputs.largest }
-        ensures number { result ≡ true → 0 < outputs.blocks → table_count self.now.levels.now + outputs.tables ≤ gone + 1024 }
+        ensures room { result ≡ true
+            → SurelyFit self.now.extents.now outputs.blocks outputs.largest }
+        ensures number { result ≡ true → 0 < outputs.blocks
+            → table_count self.now.levels.now + outputs.tables ≤ gone + 1024 }
         ensures few { result ≡ true → outputs.blocks < 4294967296 }
     {
         outputs.blocks == 0 || (self.has_tables(outputs, gone) && self.has_room(outputs))
@@ -122,8 +124,12 @@ impl<'a, H: HeldJobs, A: Allocator> Standing<'a, H, A> {
 
     /// Whether outputs are sure to find room in blocks, however many tables there are. None has more blocks than all of them.
     pub fn has_room(&self, outputs: Outputs) -> bool
-        ensures test { result ≡ (nat_lt outputs.blocks 4294967296 && has_sure_room self.now.extents.now outputs.blocks (min outputs.largest outputs.blocks)) }
-        ensures room { result ≡ true → SurelyFit self.now.extents.now outputs.blocks outputs.largest }
+        ensures test { result
+            ≡ (nat_lt outputs.blocks 4294967296
+            && has_sure_room self.now.extents.now outputs.blocks
+            (min outputs.largest outputs.blocks)) }
+        ensures room { result ≡ true
+            → SurelyFit self.now.extents.now outputs.blocks outputs.largest }
         ensures few { result ≡ true → outputs.blocks < 4294967296 }
     {
         if outputs.blocks > u64::from(u32::MAX) {
@@ -144,8 +150,12 @@ impl<'a, H: HeldJobs, A: Allocator> Standing<'a, H, A> {
 
     /// What the outputs of a choice take at most, undivided, where it may be taken.
     pub fn outputs(&self, choice: Choice) -> Option<Outputs>
-        ensures may { is_some result ≡ may_take self.now.levels.now (H.jobs self.now.held.now) choice }
-        ensures takes { IfSome result (λ o. o.blocks < 4294967296 → (job : Job) → chosen self.now.levels.now (H.jobs self.now.held.now) choice ≡ Some job → MakesAtMost self.now.levels.now self.now.live job [] o.blocks o.largest) }
+        ensures may { is_some result
+            ≡ may_take self.now.levels.now (H.jobs self.now.held.now) choice }
+        ensures takes { IfSome result
+            (λ o. o.blocks < 4294967296 → (job : Job)
+            → chosen self.now.levels.now (H.jobs self.now.held.now) choice ≡ Some job
+            → MakesAtMost self.now.levels.now self.now.live job [] o.blocks o.largest) }
     {
         let _runs = self.levels.runs();
         match self.levels.choose(choice, self.held) {
@@ -156,8 +166,11 @@ impl<'a, H: HeldJobs, A: Allocator> Standing<'a, H, A> {
 
     /// Whether a choice may be taken, and its outputs, undivided, are sure to find room, and it takes in at most `most_blocks` blocks.
     pub fn is_sure(&self, choice: Choice, most_blocks: u64) -> bool
-        ensures may { result ≡ true → may_take self.now.levels.now (H.jobs self.now.held.now) choice ≡ true }
-        ensures room { result ≡ true → (job : Job) → chosen self.now.levels.now (H.jobs self.now.held.now) choice ≡ Some job → FindsRoom self.now.extents.now self.now.levels.now self.now.live job [] }
+        ensures may { result ≡ true
+            → may_take self.now.levels.now (H.jobs self.now.held.now) choice ≡ true }
+        ensures room { result ≡ true → (job : Job)
+            → chosen self.now.levels.now (H.jobs self.now.held.now) choice ≡ Some job
+            → FindsRoom self.now.extents.now self.now.levels.now self.now.live job [] }
     {
         let _runs = self.levels.runs();
         match self.levels.choose(choice, self.held) {
@@ -172,8 +185,11 @@ impl<'a, H: HeldJobs, A: Allocator> Standing<'a, H, A> {
     /// Whether a choice may be taken, and its outputs, divided at these keys, are sure to find room. How much they take is known of those
     /// that aren't divided, and of those of one table that is cut at one key; others are never sure.
     pub fn is_sure_at(&self, choice: Choice, divisions: &[Key<A>]) -> bool
-        ensures may { result ≡ true → may_take self.now.levels.now (H.jobs self.now.held.now) choice ≡ true }
-        ensures room { result ≡ true → (job : Job) → chosen self.now.levels.now (H.jobs self.now.held.now) choice ≡ Some job → FindsRoom self.now.extents.now self.now.levels.now self.now.live job divisions.now }
+        ensures may { result ≡ true
+            → may_take self.now.levels.now (H.jobs self.now.held.now) choice ≡ true }
+        ensures room { result ≡ true → (job : Job)
+            → chosen self.now.levels.now (H.jobs self.now.held.now) choice ≡ Some job
+            → FindsRoom self.now.extents.now self.now.levels.now self.now.live job divisions.now }
     {
         let _runs = self.levels.runs();
         if let Some(job) = self.levels.choose(choice, self.held) {
@@ -184,8 +200,13 @@ impl<'a, H: HeldJobs, A: Allocator> Standing<'a, H, A> {
 
     // Whether the outputs of a job, divided at these keys, are sure to find room.
     fn places_job(&self, job: &Pick<'_, A>, divisions: &[Key<A>]) -> bool
-        ensures { result ≡ true → (o : Outputs) × (o.blocks < 4294967296) × SurelyFit self.now.extents.now o.blocks o.largest
-            × (o.blocks < 4294967296 → IsHeld self.now.levels.now (is_bottom self.now.levels.now (job_of job.now)) (job_of job.now) → is_flush (job_of job.now) ≡ false → MakesAtMost self.now.levels.now self.now.live (job_of job.now) divisions.now o.blocks o.largest) }
+        ensures { result ≡ true → (o : Outputs) × (o.blocks < 4294967296)
+            × SurelyFit self.now.extents.now o.blocks o.largest
+            × (o.blocks < 4294967296
+            → IsHeld self.now.levels.now (is_bottom self.now.levels.now (job_of job.now))
+            (job_of job.now) → is_flush (job_of job.now) ≡ false
+            → MakesAtMost self.now.levels.now self.now.live (job_of job.now) divisions.now
+            o.blocks o.largest) }
     {
         if let Some(outputs) = outputs_at(self.levels, job, divisions, self.live) {
             return self.places(outputs, count_in(job));

@@ -52,8 +52,11 @@ impl<'a, H: HeldJobs, A: Allocator + Clone> Standing<'a, H, A> {
     /// these that is: the table is cut at one of those it meets; or the larger of the two is halved. Else a table is moved so that free
     /// blocks become adjacent.
     pub fn step_down(&self, alloc: &A) -> Result<Advice<A>, AllocError>
-        ensures may { IfOk result (λ advice. MayFollow self.now.levels.now (H.jobs self.now.held.now) advice) }
-        ensures room { IfOk result (λ advice. AdvisesRoom self.now.extents.now self.now.levels.now self.now.live (H.jobs self.now.held.now) advice) }
+        ensures may { IfOk result
+            (λ advice. MayFollow self.now.levels.now (H.jobs self.now.held.now) advice) }
+        ensures room { IfOk result
+            (λ advice. AdvisesRoom self.now.extents.now self.now.levels.now self.now.live
+            (H.jobs self.now.held.now) advice) }
     {
         let last = self.last_level();
         Ok(self.step_down_to(alloc, last)?)
@@ -61,8 +64,11 @@ impl<'a, H: HeldJobs, A: Allocator + Clone> Standing<'a, H, A> {
 
     /// The next step of those that merge all tables into a level.
     pub fn step_down_to(&self, alloc: &A, last: usize) -> Result<Advice<A>, AllocError>
-        ensures may { IfOk result (λ advice. MayFollow self.now.levels.now (H.jobs self.now.held.now) advice) }
-        ensures room { IfOk result (λ advice. AdvisesRoom self.now.extents.now self.now.levels.now self.now.live (H.jobs self.now.held.now) advice) }
+        ensures may { IfOk result
+            (λ advice. MayFollow self.now.levels.now (H.jobs self.now.held.now) advice) }
+        ensures room { IfOk result
+            (λ advice. AdvisesRoom self.now.extents.now self.now.levels.now self.now.live
+            (H.jobs self.now.held.now) advice) }
     {
         let advice = self.next_step(alloc, last)?;
         Ok(self.unless_held(advice))
@@ -71,7 +77,8 @@ impl<'a, H: HeldJobs, A: Allocator + Clone> Standing<'a, H, A> {
     // A step, where no job that holds a slot is in its way.
     fn if_free(&self, step: Step<A>) -> Option<Step<A>>
         ensures same { IfSome result (λ s. s ≡ step) }
-        ensures may { IfSome result (λ s. may_take self.now.levels.now (H.jobs self.now.held.now) s.choice ≡ true) }
+        ensures may { IfSome result
+            (λ s. may_take self.now.levels.now (H.jobs self.now.held.now) s.choice ≡ true) }
     {
         if self.may_take(step.choice) {
             return Some(step);
@@ -82,7 +89,10 @@ impl<'a, H: HeldJobs, A: Allocator + Clone> Standing<'a, H, A> {
     // The advice, where no job that holds a slot is in its way.
     fn unless_held(&self, advice: Advice<A>) -> Advice<A>
         ensures may { MayFollow self.now.levels.now (H.jobs self.now.held.now) result }
-        ensures room { AdvisesRoom self.now.extents.now self.now.levels.now self.now.live (H.jobs self.now.held.now) advice → AdvisesRoom self.now.extents.now self.now.levels.now self.now.live (H.jobs self.now.held.now) result }
+        ensures room { AdvisesRoom self.now.extents.now self.now.levels.now self.now.live
+            (H.jobs self.now.held.now) advice
+            → AdvisesRoom self.now.extents.now self.now.levels.now self.now.live
+            (H.jobs self.now.held.now) result }
     {
         match advice {
             Advice::Take(step) => self.take_if_free(step),
@@ -94,7 +104,10 @@ impl<'a, H: HeldJobs, A: Allocator + Clone> Standing<'a, H, A> {
 
     fn take_if_free(&self, step: Step<A>) -> Advice<A>
         ensures may { MayFollow self.now.levels.now (H.jobs self.now.held.now) result }
-        ensures room { IsPlaced self.now.extents.now self.now.levels.now self.now.live (H.jobs self.now.held.now) step → AdvisesRoom self.now.extents.now self.now.levels.now self.now.live (H.jobs self.now.held.now) result }
+        ensures room { IsPlaced self.now.extents.now self.now.levels.now self.now.live
+            (H.jobs self.now.held.now) step
+            → AdvisesRoom self.now.extents.now self.now.levels.now self.now.live
+            (H.jobs self.now.held.now) result }
     {
         let choice = step.choice;
         let wanted = Outputs::none();
@@ -106,7 +119,9 @@ impl<'a, H: HeldJobs, A: Allocator + Clone> Standing<'a, H, A> {
 
     fn try_if_free(&self, step: Step<A>) -> Advice<A>
         ensures may { MayFollow self.now.levels.now (H.jobs self.now.held.now) result }
-        ensures room { goes_down step.choice ≡ false → AdvisesRoom self.now.extents.now self.now.levels.now self.now.live (H.jobs self.now.held.now) result }
+        ensures room { goes_down step.choice ≡ false
+            → AdvisesRoom self.now.extents.now self.now.levels.now self.now.live
+            (H.jobs self.now.held.now) result }
     {
         let choice = step.choice;
         let wanted = Outputs::none();
@@ -118,7 +133,9 @@ impl<'a, H: HeldJobs, A: Allocator + Clone> Standing<'a, H, A> {
 
     // A step that rewrites tables: it is to be taken if it is sure to find room, and to be tried if not.
     fn rewriting(&self, step: Step<A>) -> Advice<A>
-        ensures { goes_down step.choice ≡ false → AdvisesRoom self.now.extents.now self.now.levels.now self.now.live (H.jobs self.now.held.now) result }
+        ensures { goes_down step.choice ≡ false
+            → AdvisesRoom self.now.extents.now self.now.levels.now self.now.live
+            (H.jobs self.now.held.now) result }
     {
         if self.is_sure_at(step.choice, &step.divisions) {
             return Advice::Take(step);
@@ -128,7 +145,9 @@ impl<'a, H: HeldJobs, A: Allocator + Clone> Standing<'a, H, A> {
 
     // The next step, whatever holds slots.
     fn next_step(&self, alloc: &A, last: usize) -> Result<Advice<A>, AllocError>
-        ensures { IfOk result (λ advice. AdvisesRoom self.now.extents.now self.now.levels.now self.now.live (H.jobs self.now.held.now) advice) }
+        ensures { IfOk result
+            (λ advice. AdvisesRoom self.now.extents.now self.now.levels.now self.now.live
+            (H.jobs self.now.held.now) advice) }
     {
         match self.deepest(last) {
             0 => self.step_of_runs(alloc),
@@ -138,7 +157,10 @@ impl<'a, H: HeldJobs, A: Allocator + Clone> Standing<'a, H, A> {
 
     // A merge, undivided, if it is sure to find room.
     fn if_sure(&self, alloc: &A, choice: Choice, most: u64) -> Result<Option<Advice<A>>, AllocError>
-        ensures { IfOk result (λ advice. IfSome advice (AdvisesRoom self.now.extents.now self.now.levels.now self.now.live (H.jobs self.now.held.now))) }
+        ensures { IfOk result
+            (λ advice. IfSome advice
+            (AdvisesRoom self.now.extents.now self.now.levels.now self.now.live
+            (H.jobs self.now.held.now))) }
     {
         if !self.is_sure(choice, most) {
             return Ok(None);
@@ -149,7 +171,9 @@ impl<'a, H: HeldJobs, A: Allocator + Clone> Standing<'a, H, A> {
 
     // The oldest runs, as many as are sure to find room.
     fn step_of_runs(&self, alloc: &A) -> Result<Advice<A>, AllocError>
-        ensures { IfOk result (λ advice. AdvisesRoom self.now.extents.now self.now.levels.now self.now.live (H.jobs self.now.held.now) advice) }
+        ensures { IfOk result
+            (λ advice. AdvisesRoom self.now.extents.now self.now.levels.now self.now.live
+            (H.jobs self.now.held.now) advice) }
     {
         let all = self.levels.runs().len();
         for newer in 0..all {
@@ -169,7 +193,9 @@ impl<'a, H: HeldJobs, A: Allocator + Clone> Standing<'a, H, A> {
 
     // A step of the tables of a level from 1 to 3.
     fn step_of_level(&self, alloc: &A, level: usize, last: usize) -> Result<Advice<A>, AllocError>
-        ensures { IfOk result (λ advice. AdvisesRoom self.now.extents.now self.now.levels.now self.now.live (H.jobs self.now.held.now) advice) }
+        ensures { IfOk result
+            (λ advice. AdvisesRoom self.now.extents.now self.now.levels.now self.now.live
+            (H.jobs self.now.held.now) advice) }
     {
         let deeper = self.levels.deeper();
         let (Some(run), Some(next)) = (deeper.get(level.saturating_sub(1)), deeper.get(level))
@@ -195,7 +221,9 @@ impl<'a, H: HeldJobs, A: Allocator + Clone> Standing<'a, H, A> {
         table: &PlacedTable<A>,
         below: &[PlacedTable<A>],
     ) -> Result<Advice<A>, AllocError>
-        ensures { IfOk result (λ advice. AdvisesRoom self.now.extents.now self.now.levels.now self.now.live (H.jobs self.now.held.now) advice) }
+        ensures { IfOk result
+            (λ advice. AdvisesRoom self.now.extents.now self.now.levels.now self.now.live
+            (H.jobs self.now.held.now) advice) }
     {
         let (cut, divisions, parts) = match below {
             [lower] if data_of(lower) >= data_of(table) => halved(alloc, lower)?,
@@ -218,7 +246,9 @@ impl<'a, H: HeldJobs, A: Allocator + Clone> Standing<'a, H, A> {
 
     // A step that makes room for a choice, which needs `wanted`.
     fn make_room(&self, alloc: &A, choice: Choice, wanted: Outputs) -> Result<Advice<A>, AllocError>
-        ensures { IfOk result (λ advice. AdvisesRoom self.now.extents.now self.now.levels.now self.now.live (H.jobs self.now.held.now) advice) }
+        ensures { IfOk result
+            (λ advice. AdvisesRoom self.now.extents.now self.now.levels.now self.now.live
+            (H.jobs self.now.held.now) advice) }
     {
         match move_of(self, alloc)? {
             Some(step) => Ok(self.rewriting(step)),
@@ -228,8 +258,11 @@ impl<'a, H: HeldJobs, A: Allocator + Clone> Standing<'a, H, A> {
 
     /// The next step that makes free blocks adjacent, if there is one.
     pub fn step_aside(&self, alloc: &A) -> Result<Advice<A>, AllocError>
-        ensures may { IfOk result (λ advice. MayFollow self.now.levels.now (H.jobs self.now.held.now) advice) }
-        ensures room { IfOk result (λ advice. AdvisesRoom self.now.extents.now self.now.levels.now self.now.live (H.jobs self.now.held.now) advice) }
+        ensures may { IfOk result
+            (λ advice. MayFollow self.now.levels.now (H.jobs self.now.held.now) advice) }
+        ensures room { IfOk result
+            (λ advice. AdvisesRoom self.now.extents.now self.now.levels.now self.now.live
+            (H.jobs self.now.held.now) advice) }
     {
         match move_of(self, alloc)? {
             Some(step) => Ok(self.rewriting_if_free(step)),
@@ -239,8 +272,11 @@ impl<'a, H: HeldJobs, A: Allocator + Clone> Standing<'a, H, A> {
 
     /// The next step that joins neighbours, of a level that has more than twice the tables that its entries need.
     pub fn step_together(&self, alloc: &A) -> Result<Advice<A>, AllocError>
-        ensures may { IfOk result (λ advice. MayFollow self.now.levels.now (H.jobs self.now.held.now) advice) }
-        ensures room { IfOk result (λ advice. AdvisesRoom self.now.extents.now self.now.levels.now self.now.live (H.jobs self.now.held.now) advice) }
+        ensures may { IfOk result
+            (λ advice. MayFollow self.now.levels.now (H.jobs self.now.held.now) advice) }
+        ensures room { IfOk result
+            (λ advice. AdvisesRoom self.now.extents.now self.now.levels.now self.now.live
+            (H.jobs self.now.held.now) advice) }
     {
         match join_of(self) {
             Some(choice) => Ok(self.rewriting_if_free(Step::whole(alloc, choice)?)),
@@ -251,7 +287,9 @@ impl<'a, H: HeldJobs, A: Allocator + Clone> Standing<'a, H, A> {
     // A step that rewrites tables, where no job that holds a slot is in its way.
     fn rewriting_if_free(&self, step: Step<A>) -> Advice<A>
         ensures may { MayFollow self.now.levels.now (H.jobs self.now.held.now) result }
-        ensures room { goes_down step.choice ≡ false → AdvisesRoom self.now.extents.now self.now.levels.now self.now.live (H.jobs self.now.held.now) result }
+        ensures room { goes_down step.choice ≡ false
+            → AdvisesRoom self.now.extents.now self.now.levels.now self.now.live
+            (H.jobs self.now.held.now) result }
     {
         let advice = self.rewriting(step);
         self.unless_held(advice)

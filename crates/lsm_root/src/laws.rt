@@ -12,13 +12,23 @@ ghost use Rattle.lsm_root.specs.Roots.{Names, Stands, superblock_in, root_of};
 /// after them and crashes leave it unchanged, and a valid root is within the limits, in the version of its superblock, its tables
 /// are in the data area, and the generation after its own is the next.
 pub fn root_laws()
-    ensures front { (c e : List (List ℕ)) → length c ≡ length e → take 130 c ≡ take 130 e → (root_of c ≡ root_of e) × (superblock_in c ≡ superblock_in e) }
-    ensures crash { (d : Disk) → IsSettled d → (mask : List Bool) → root_of (image mask d) ≡ root_of (seen d) }
-    ensures elsewhere { (d : Disk) (ws : List Write) → IsSettled d → All (λ w. 130 ≤ w.at) ws → IsSettled (grown ws d) × (root_of (seen (grown ws d)) ≡ root_of (seen d)) }
-    ensures ready_elsewhere { (size log generation : ℕ) (d : Disk) (ws : List Write) → IsReady size log generation d → All (λ w. 130 ≤ w.at) ws → IsReady size log generation (grown ws d) }
-    ensures ready_synced { (size log generation : ℕ) (d : Disk) → IsReady size log generation d → IsReady size log generation (synced d) }
-    ensures next { (image : List (List ℕ)) (log : ℕ) (m : Contents) → root_of image ≡ Stands log m → IsNext (length image) log (m.generation + 1) (superblock_in image) }
-    ensures fits { (image : List (List ℕ)) (log : ℕ) (m : Contents) → root_of image ≡ Stands log m → IsGeometry (length image) log × IsManifest m }
-    ensures version { (image : List (List ℕ)) (log : ℕ) (m : Contents) (s : Superblock) → superblock_in image ≡ Names s → root_of image ≡ Stands log m → IsManifestOf s.version m }
-    ensures inside { (image : List (List ℕ)) (log : ℕ) (m : Contents) → root_of image ≡ Stands log m → LieInside (length image) log m.tables }
+    ensures front { (c e : List (List ℕ)) → length c ≡ length e → take 130 c ≡ take 130 e
+        → (root_of c ≡ root_of e) × (superblock_in c ≡ superblock_in e) }
+    ensures crash { (d : Disk) → IsSettled d → (mask : List Bool)
+        → root_of (image mask d) ≡ root_of (seen d) }
+    ensures elsewhere { (d : Disk) (ws : List Write) → IsSettled d → All (λ w. 130 ≤ w.at) ws
+        → IsSettled (grown ws d) × (root_of (seen (grown ws d)) ≡ root_of (seen d)) }
+    ensures ready_elsewhere { (size log generation : ℕ) (d : Disk) (ws : List Write)
+        → IsReady size log generation d → All (λ w. 130 ≤ w.at) ws
+        → IsReady size log generation (grown ws d) }
+    ensures ready_synced { (size log generation : ℕ) (d : Disk) → IsReady size log generation d
+        → IsReady size log generation (synced d) }
+    ensures next { (image : List (List ℕ)) (log : ℕ) (m : Contents) → root_of image ≡ Stands log m
+        → IsNext (length image) log (m.generation + 1) (superblock_in image) }
+    ensures fits { (image : List (List ℕ)) (log : ℕ) (m : Contents) → root_of image ≡ Stands log m
+        → IsGeometry (length image) log × IsManifest m }
+    ensures version { (image : List (List ℕ)) (log : ℕ) (m : Contents) (s : Superblock)
+        → superblock_in image ≡ Names s → root_of image ≡ Stands log m → IsManifestOf s.version m }
+    ensures inside { (image : List (List ℕ)) (log : ℕ) (m : Contents) → root_of image ≡ Stands log m
+        → LieInside (length image) log m.tables }
 {}

@@ -49,10 +49,13 @@ impl<A: Allocator> NextRoot<A> {
     ) -> Result<NextRoot<A>, Refusal>
         requires geometry { IsGeometry sectors log_sectors }
         requires valid { manifest.now.generation ≤ 2 ^ 63 → IsManifestOf Two manifest.now }
-        requires inside { manifest.now.generation ≤ 2 ^ 63 → LieInside sectors log_sectors manifest.now.tables }
-        ensures prepared { IfOk result (λ next. next ≡ record { size = sectors; log = log_sectors; manifest = manifest.now }) }
+        requires inside { manifest.now.generation ≤ 2 ^ 63
+            → LieInside sectors log_sectors manifest.now.tables }
+        ensures prepared { IfOk result
+            (λ next. next ≡ record { size = sectors; log = log_sectors; manifest = manifest.now }) }
         ensures exhausted { (result ≡ Err Refusal.Exhausted) ↔ (2 ^ 63 < manifest.now.generation) }
-        ensures refused { IfErr result (λ refusal. (refusal ≡ Refusal.Exhausted) ⊎ (refusal ≡ Refusal.NoMemory)) }
+        ensures refused { IfErr result
+            (λ refusal. (refusal ≡ Refusal.Exhausted) ⊎ (refusal ≡ Refusal.NoMemory)) }
     {
         let generation = manifest.generation();
         if generation > LAST_NUMBER {
@@ -77,26 +80,41 @@ impl<A: Allocator> NextRoot<A> {
 
         // Where its generation comes next, a crash at any moment leaves the old root, and after it what a crash may have left
         // when the call began, or this root, and then all that pended is durable.
-        ensures any_moment { IsTrue (D.medium device.old).lasting.tells → IsReady (D.medium device.old).size self.now.log self.now.manifest.generation (disk (D.medium device.old)) → EachSince
-            (Leaves (IsOldOrNew (disk (D.medium device.old)) (Stands self.now.log self.now.manifest)))
+        ensures any_moment { IsTrue (D.medium device.old).lasting.tells
+            → IsReady (D.medium device.old).size self.now.log self.now.manifest.generation
+            (disk (D.medium device.old)) → EachSince
+            (Leaves (IsOldOrNew (disk (D.medium device.old))
+            (Stands self.now.log self.now.manifest)))
             (D.medium device.old).history (D.medium device.new).history }
 
         // After the root's sectors nothing is written, but what pended may become durable.
-        ensures behind { IsTrue (D.medium device.old).lasting.tells → IsReady (D.medium device.old).size self.now.log self.now.manifest.generation (disk (D.medium device.old)) → EachSince (KeepsBehind (disk (D.medium device.old)))
+        ensures behind { IsTrue (D.medium device.old).lasting.tells
+            → IsReady (D.medium device.old).size self.now.log self.now.manifest.generation
+            (disk (D.medium device.old)) → EachSince (KeepsBehind (disk (D.medium device.old)))
             (D.medium device.old).history (D.medium device.new).history }
-        ensures installed { IsTrue (D.medium device.old).lasting.tells → IsReady (D.medium device.old).size self.now.log self.now.manifest.generation (disk (D.medium device.old)) → OnOk result
-            (IsInstalled (disk (D.medium device.old)) (Stands self.now.log self.now.manifest) (disk (D.medium device.new))) }
+        ensures installed { IsTrue (D.medium device.old).lasting.tells
+            → IsReady (D.medium device.old).size self.now.log self.now.manifest.generation
+            (disk (D.medium device.old)) → OnOk result
+            (IsInstalled (disk (D.medium device.old)) (Stands self.now.log self.now.manifest)
+            (disk (D.medium device.new))) }
 
         // It writes its superblock and the sectors of its manifest alone.
         ensures others { IsTrue (D.medium device.old).lasting.tells → OnOk result
-            (KeepsOthers self.now.manifest (seen (disk (D.medium device.old))) (disk (D.medium device.new)).stands) }
+            (KeepsOthers self.now.manifest (seen (disk (D.medium device.old)))
+            (disk (D.medium device.new)).stands) }
 
         // The next generation may be installed.
-        ensures next { IsTrue (D.medium device.old).lasting.tells → IsReady (D.medium device.old).size self.now.log self.now.manifest.generation (disk (D.medium device.old)) → OnOk result
-            (IsReady (D.medium device.new).size self.now.log (self.now.manifest.generation + 1) (disk (D.medium device.new))) }
+        ensures next { IsTrue (D.medium device.old).lasting.tells
+            → IsReady (D.medium device.old).size self.now.log self.now.manifest.generation
+            (disk (D.medium device.old)) → OnOk result
+            (IsReady (D.medium device.new).size self.now.log (self.now.manifest.generation + 1)
+            (disk (D.medium device.new))) }
         ensures counts { AtMost 0 42 2 (D.medium device.old).calls (D.medium device.new).calls }
-        ensures made { OnOk result (CallsMade (sector_count self.now.manifest + 1) 2 (D.medium device.old).calls (D.medium device.new).calls) }
-        ensures faults { (D.medium device.new).calls.faults ≡ faults_after (is_ok result) (D.medium device.old).calls.faults }
+        ensures made { OnOk result
+            (CallsMade (sector_count self.now.manifest + 1) 2 (D.medium device.old).calls
+            (D.medium device.new).calls) }
+        ensures faults { (D.medium device.new).calls.faults
+            ≡ faults_after (is_ok result) (D.medium device.old).calls.faults }
         ensures stops { OnErr result (IsTrue (D.medium device.new).calls.last_faulted) }
         ensures same_size { (D.medium device.new).size ≡ (D.medium device.old).size }
         ensures same_lasting { (D.medium device.new).lasting ≡ (D.medium device.old).lasting }
@@ -123,9 +141,12 @@ pub fn install<A: Allocator, D: Device>(
     manifest: &Manifest<A>,
 ) -> Result<(), Refusal>
     requires geometry { IsGeometry (D.medium device.old).size log_sectors }
-    requires ready { IsTrue (D.medium device.old).lasting.tells → IsReady (D.medium device.old).size log_sectors manifest.now.generation (disk (D.medium device.old)) }
+    requires ready { IsTrue (D.medium device.old).lasting.tells
+        → IsReady (D.medium device.old).size log_sectors manifest.now.generation
+        (disk (D.medium device.old)) }
     requires valid { manifest.now.generation ≤ 2 ^ 63 → IsManifestOf Two manifest.now }
-    requires inside { manifest.now.generation ≤ 2 ^ 63 → LieInside (D.medium device.old).size log_sectors manifest.now.tables }
+    requires inside { manifest.now.generation ≤ 2 ^ 63
+        → LieInside (D.medium device.old).size log_sectors manifest.now.tables }
 
     // A crash at any moment leaves the old root, and after it what a crash may have left when the call began, or the
     // new root, and then all that pended is durable.
@@ -134,23 +155,33 @@ pub fn install<A: Allocator, D: Device>(
         (D.medium device.old).history (D.medium device.new).history }
 
     // After the root's sectors nothing is written, but what pended may become durable.
-    ensures behind { IsTrue (D.medium device.old).lasting.tells → EachSince (KeepsBehind (disk (D.medium device.old)))
+    ensures behind { IsTrue (D.medium device.old).lasting.tells
+        → EachSince (KeepsBehind (disk (D.medium device.old)))
         (D.medium device.old).history (D.medium device.new).history }
     ensures installed { IsTrue (D.medium device.old).lasting.tells → OnOk result
-        (IsInstalled (disk (D.medium device.old)) (Stands log_sectors manifest.now) (disk (D.medium device.new))) }
+        (IsInstalled (disk (D.medium device.old)) (Stands log_sectors manifest.now)
+        (disk (D.medium device.new))) }
 
     // The next generation may be installed.
     ensures next { IsTrue (D.medium device.old).lasting.tells → OnOk result
-        (IsReady (D.medium device.new).size log_sectors (manifest.now.generation + 1) (disk (D.medium device.new))) }
+        (IsReady (D.medium device.new).size log_sectors (manifest.now.generation + 1)
+        (disk (D.medium device.new))) }
     ensures exhausted { (result ≡ Err Refusal.Exhausted) ↔ (2 ^ 63 < manifest.now.generation) }
-    ensures refused { IfErr result (λ refusal. (refusal ≡ Refusal.Exhausted) ⊎ ((refusal ≡ Refusal.NoMemory) ⊎ (refusal ≡ Refusal.Io))) }
+    ensures refused { IfErr result
+        (λ refusal. (refusal ≡ Refusal.Exhausted)
+        ⊎ ((refusal ≡ Refusal.NoMemory) ⊎ (refusal ≡ Refusal.Io))) }
 
     // Unless a call of it failed, the device wasn't called.
-    ensures untouched { IfErr result (λ refusal. IsTrue (is_no_fault refusal) → device.new ≡ device.old) }
+    ensures untouched { IfErr result
+        (λ refusal. IsTrue (is_no_fault refusal) → device.new ≡ device.old) }
     ensures counts { AtMost 0 42 2 (D.medium device.old).calls (D.medium device.new).calls }
-    ensures made { OnOk result (CallsMade (sector_count manifest.now + 1) 2 (D.medium device.old).calls (D.medium device.new).calls) }
-    ensures faults { (D.medium device.new).calls.faults ≡ faults_after (faultless result) (D.medium device.old).calls.faults }
-    ensures stops { IfErr result (λ refusal. refusal ≡ Refusal.Io → IsTrue (D.medium device.new).calls.last_faulted) }
+    ensures made { OnOk result
+        (CallsMade (sector_count manifest.now + 1) 2 (D.medium device.old).calls
+        (D.medium device.new).calls) }
+    ensures faults { (D.medium device.new).calls.faults
+        ≡ faults_after (faultless result) (D.medium device.old).calls.faults }
+    ensures stops { IfErr result
+        (λ refusal. refusal ≡ Refusal.Io → IsTrue (D.medium device.new).calls.last_faulted) }
     ensures same_size { (D.medium device.new).size ≡ (D.medium device.old).size }
     ensures same_lasting { (D.medium device.new).lasting ≡ (D.medium device.old).lasting }
 {

@@ -71,7 +71,8 @@ fn is_followed_by(superblock: &Superblock, later: &Superblock) -> bool
 
 // The newer of the two valid superblocks, or the lone one.
 fn newer(even: &[u8; 512], odd: &[u8; 512]) -> Result<Superblock, Refusal>
-    ensures { TellsSuperblock (newer (in_slot 0 (reading_of even.now)) (in_slot 1 (reading_of odd.now))) result }
+    ensures { TellsSuperblock
+        (newer (in_slot 0 (reading_of even.now)) (in_slot 1 (reading_of odd.now))) result }
 {
     let even = superblock_in(even, 0)?;
     let odd = superblock_in(odd, 1)?;
@@ -93,13 +94,19 @@ fn newer(even: &[u8; 512], odd: &[u8; 512]) -> Result<Superblock, Refusal>
 // Reads both superblocks, and returns the one that counts.
 fn read_superblock<D: Device>(device: &mut D) -> Result<Superblock, Refusal>
     requires large { 2 ≤ (D.medium device.old).size }
-    ensures told { IsTrue (D.medium device.old).lasting.tells → TellsCounted (superblock_in (seen (disk (D.medium device.old)))) result }
+    ensures told { IsTrue (D.medium device.old).lasting.tells
+        → TellsCounted (superblock_in (seen (disk (D.medium device.old)))) result }
     ensures fits { IfOk result IsSuperblock }
-    ensures refused { IfErr result (λ refusal. (refusal ≡ Refusal.Io) ⊎ ((refusal ≡ Refusal.NotAStore) ⊎ (refusal ≡ Refusal.BadSuper))) }
-    ensures unchanged { IsTrue (D.medium device.old).lasting.tells → (D.medium device.new).history ≡ (D.medium device.old).history }
+    ensures refused { IfErr result
+        (λ refusal. (refusal ≡ Refusal.Io)
+        ⊎ ((refusal ≡ Refusal.NotAStore) ⊎ (refusal ≡ Refusal.BadSuper))) }
+    ensures unchanged { IsTrue (D.medium device.old).lasting.tells
+        → (D.medium device.new).history ≡ (D.medium device.old).history }
     ensures counts { AtMost 2 0 0 (D.medium device.old).calls (D.medium device.new).calls }
-    ensures faults { (D.medium device.new).calls.faults ≡ faults_after (faultless result) (D.medium device.old).calls.faults }
-    ensures stops { IfErr result (λ refusal. refusal ≡ Refusal.Io → IsTrue (D.medium device.new).calls.last_faulted) }
+    ensures faults { (D.medium device.new).calls.faults
+        ≡ faults_after (faultless result) (D.medium device.old).calls.faults }
+    ensures stops { IfErr result
+        (λ refusal. refusal ≡ Refusal.Io → IsTrue (D.medium device.new).calls.last_faulted) }
     ensures same_size { (D.medium device.new).size ≡ (D.medium device.old).size }
     ensures same_lasting { (D.medium device.new).lasting ≡ (D.medium device.old).lasting }
 {
@@ -113,16 +120,23 @@ fn read_superblock<D: Device>(device: &mut D) -> Result<Superblock, Refusal>
 
 // Reads the superblock that counts; `BadGeometry` where it is not of a device of this size.
 fn own_superblock<D: Device>(device: &mut D) -> Result<Superblock, Refusal>
-    ensures told { IsTrue (D.medium device.old).lasting.tells → IfOk result (λ s. superblock_in (seen (disk (D.medium device.old))) ≡ Names s) }
+    ensures told { IsTrue (D.medium device.old).lasting.tells
+        → IfOk result (λ s. superblock_in (seen (disk (D.medium device.old))) ≡ Names s) }
     ensures why { IsTrue (D.medium device.old).lasting.tells → IfErr result (λ refusal.
-        (refusal_of (root_of (seen (disk (D.medium device.old)))) ≡ Some refusal) ⊎ ((refusal ≡ Refusal.NoMemory) ⊎ (refusal ≡ Refusal.Io))) }
+        (refusal_of (root_of (seen (disk (D.medium device.old)))) ≡ Some refusal)
+        ⊎ ((refusal ≡ Refusal.NoMemory) ⊎ (refusal ≡ Refusal.Io))) }
     ensures fits { IfOk result IsSuperblock }
     ensures sized { IfOk result (λ s. s.sectors ≡ (D.medium device.old).size) }
-    ensures refused { IfErr result (λ refusal. ((root : Root) × (refusal_of root ≡ Some refusal)) ⊎ ((refusal ≡ Refusal.NoMemory) ⊎ (refusal ≡ Refusal.Io))) }
-    ensures unchanged { IsTrue (D.medium device.old).lasting.tells → (D.medium device.new).history ≡ (D.medium device.old).history }
+    ensures refused { IfErr result
+        (λ refusal. ((root : Root) × (refusal_of root ≡ Some refusal))
+        ⊎ ((refusal ≡ Refusal.NoMemory) ⊎ (refusal ≡ Refusal.Io))) }
+    ensures unchanged { IsTrue (D.medium device.old).lasting.tells
+        → (D.medium device.new).history ≡ (D.medium device.old).history }
     ensures counts { AtMost 2 0 0 (D.medium device.old).calls (D.medium device.new).calls }
-    ensures faults { (D.medium device.new).calls.faults ≡ faults_after (faultless result) (D.medium device.old).calls.faults }
-    ensures stops { IfErr result (λ refusal. refusal ≡ Refusal.Io → IsTrue (D.medium device.new).calls.last_faulted) }
+    ensures faults { (D.medium device.new).calls.faults
+        ≡ faults_after (faultless result) (D.medium device.old).calls.faults }
+    ensures stops { IfErr result
+        (λ refusal. refusal ≡ Refusal.Io → IsTrue (D.medium device.new).calls.last_faulted) }
     ensures same_size { (D.medium device.new).size ≡ (D.medium device.old).size }
     ensures same_lasting { (D.medium device.new).lasting ≡ (D.medium device.old).lasting }
 {
@@ -147,11 +161,15 @@ fn read_text<A: Allocator + Clone, D: Device>(
     requires within { at + sectors ≤ (D.medium device.old).size }
     ensures bytes { IsTrue (D.medium device.old).lasting.tells → IfOk result (λ text.
         text.items ≡ joined (area at sectors (seen (disk (D.medium device.old))))) }
-    ensures unchanged { IsTrue (D.medium device.old).lasting.tells → (D.medium device.new).history ≡ (D.medium device.old).history }
-    ensures refused { IfErr result (λ refusal. (refusal ≡ Refusal.NoMemory) ⊎ (refusal ≡ Refusal.Io)) }
+    ensures unchanged { IsTrue (D.medium device.old).lasting.tells
+        → (D.medium device.new).history ≡ (D.medium device.old).history }
+    ensures refused { IfErr result
+        (λ refusal. (refusal ≡ Refusal.NoMemory) ⊎ (refusal ≡ Refusal.Io)) }
     ensures counts { AtMost sectors 0 0 (D.medium device.old).calls (D.medium device.new).calls }
-    ensures faults { (D.medium device.new).calls.faults ≡ faults_after (faultless result) (D.medium device.old).calls.faults }
-    ensures stops { IfErr result (λ refusal. refusal ≡ Refusal.Io → IsTrue (D.medium device.new).calls.last_faulted) }
+    ensures faults { (D.medium device.new).calls.faults
+        ≡ faults_after (faultless result) (D.medium device.old).calls.faults }
+    ensures stops { IfErr result
+        (λ refusal. refusal ≡ Refusal.Io → IsTrue (D.medium device.new).calls.last_faulted) }
     ensures same_size { (D.medium device.new).size ≡ (D.medium device.old).size }
     ensures same_lasting { (D.medium device.new).lasting ≡ (D.medium device.old).lasting }
 {
@@ -167,9 +185,12 @@ fn loaded_from<A: Allocator + Clone>(
     text: &[u8],
 ) -> Result<Loaded<A>, Refusal>
     requires fits { IsSuperblock superblock.now }
-    ensures told { TellsManifest (root_with superblock.now (manifest_of superblock.now.version text.now)) result }
-    ensures fits { IfOk result (λ l. IsGeometry superblock.now.sectors l.log_sectors × IsManifest l.manifest) }
-    ensures inside { IfOk result (λ l. LieInside superblock.now.sectors l.log_sectors l.manifest.tables) }
+    ensures told { TellsManifest
+        (root_with superblock.now (manifest_of superblock.now.version text.now)) result }
+    ensures fits { IfOk result
+        (λ l. IsGeometry superblock.now.sectors l.log_sectors × IsManifest l.manifest) }
+    ensures inside { IfOk result
+        (λ l. LieInside superblock.now.sectors l.log_sectors l.manifest.tables) }
 {
     let Some(manifest) = Manifest::decode(alloc, superblock.version, text)? else {
         return Err(Refusal::BadManifest);
@@ -198,20 +219,29 @@ fn loaded_from<A: Allocator + Clone>(
 /// one that counts is for a device of another size, or there is no room for two, and `BadManifest` where its sectors spell no
 /// manifest, one of another generation, or one with a table that isn't inside the data area.
 pub fn load<A: Allocator + Clone, D: Device>(alloc: A, device: &mut D) -> Result<Loaded<A>, Refusal>
-    ensures loaded { IsTrue (D.medium device.old).lasting.tells → Tells (root_of (seen (disk (D.medium device.old)))) result }
+    ensures loaded { IsTrue (D.medium device.old).lasting.tells
+        → Tells (root_of (seen (disk (D.medium device.old)))) result }
 
     // This holds of any device, whether it tells contracts what it holds or not.
-    ensures fits { IfOk result (λ l. IsGeometry (D.medium device.old).size l.log_sectors × IsManifest l.manifest) }
-    ensures inside { IfOk result (λ l. LieInside (D.medium device.old).size l.log_sectors l.manifest.tables) }
-    ensures refused { IfErr result (λ refusal. ((root : Root) × (refusal_of root ≡ Some refusal)) ⊎ ((refusal ≡ Refusal.NoMemory) ⊎ (refusal ≡ Refusal.Io))) }
+    ensures fits { IfOk result
+        (λ l. IsGeometry (D.medium device.old).size l.log_sectors × IsManifest l.manifest) }
+    ensures inside { IfOk result
+        (λ l. LieInside (D.medium device.old).size l.log_sectors l.manifest.tables) }
+    ensures refused { IfErr result
+        (λ refusal. ((root : Root) × (refusal_of root ≡ Some refusal))
+        ⊎ ((refusal ≡ Refusal.NoMemory) ⊎ (refusal ≡ Refusal.Io))) }
 
     // The next generation may be installed.
     ensures next { IsTrue (D.medium device.old).lasting.tells → IfOk result (λ l.
-        IsNext (D.medium device.old).size l.log_sectors (l.manifest.generation + 1) (superblock_in (seen (disk (D.medium device.old))))) }
-    ensures unchanged { IsTrue (D.medium device.old).lasting.tells → (D.medium device.new).history ≡ (D.medium device.old).history }
+        IsNext (D.medium device.old).size l.log_sectors (l.manifest.generation + 1)
+        (superblock_in (seen (disk (D.medium device.old))))) }
+    ensures unchanged { IsTrue (D.medium device.old).lasting.tells
+        → (D.medium device.new).history ≡ (D.medium device.old).history }
     ensures counts { AtMost 66 0 0 (D.medium device.old).calls (D.medium device.new).calls }
-    ensures faults { (D.medium device.new).calls.faults ≡ faults_after (faultless result) (D.medium device.old).calls.faults }
-    ensures stops { IfErr result (λ refusal. refusal ≡ Refusal.Io → IsTrue (D.medium device.new).calls.last_faulted) }
+    ensures faults { (D.medium device.new).calls.faults
+        ≡ faults_after (faultless result) (D.medium device.old).calls.faults }
+    ensures stops { IfErr result
+        (λ refusal. refusal ≡ Refusal.Io → IsTrue (D.medium device.new).calls.last_faulted) }
     ensures same_size { (D.medium device.new).size ≡ (D.medium device.old).size }
     ensures same_lasting { (D.medium device.new).lasting ≡ (D.medium device.old).lasting }
 {

@@ -24,10 +24,13 @@ fn write_text<D: Device>(device: &mut D, at: u32, text: &[u8], parts: u16) -> Re
         (HasSomeOf (disk (D.medium device.old)) (run_at at (pieces parts text.now)))
         (D.medium device.old).history (D.medium device.new).history }
     ensures all { IsTrue (D.medium device.old).lasting.tells → OnOk result
-        (disk (D.medium device.new) ≡ grown (run_at at (pieces parts text.now)) (disk (D.medium device.old))) }
+        (disk (D.medium device.new)
+        ≡ grown (run_at at (pieces parts text.now)) (disk (D.medium device.old))) }
     ensures counts { AtMost 0 parts 0 (D.medium device.old).calls (D.medium device.new).calls }
-    ensures made { OnOk result (CallsMade parts 0 (D.medium device.old).calls (D.medium device.new).calls) }
-    ensures faults { (D.medium device.new).calls.faults ≡ faults_after (is_ok result) (D.medium device.old).calls.faults }
+    ensures made { OnOk result
+        (CallsMade parts 0 (D.medium device.old).calls (D.medium device.new).calls) }
+    ensures faults { (D.medium device.new).calls.faults
+        ≡ faults_after (is_ok result) (D.medium device.old).calls.faults }
     ensures stops { OnErr result (IsTrue (D.medium device.new).calls.last_faulted) }
     ensures same_size { (D.medium device.new).size ≡ (D.medium device.old).size }
     ensures same_lasting { (D.medium device.new).lasting ≡ (D.medium device.old).lasting }
@@ -50,13 +53,19 @@ pub(crate) fn switch<D: Device>(
     requires few { parts ≤ 41 }
     requires large { 130 ≤ (D.medium device.old).size }
     ensures moments { IsTrue (D.medium device.old).lasting.tells → EachSince
-        (IsStage (disk (D.medium device.old)) (run_at (place generation) (pieces parts text.now)) (record { at = generation % 2; bytes = superblock.now }))
+        (IsStage (disk (D.medium device.old)) (run_at (place generation) (pieces parts text.now))
+        (record { at = generation % 2; bytes = superblock.now }))
         (D.medium device.old).history (D.medium device.new).history }
     ensures all { IsTrue (D.medium device.old).lasting.tells → OnOk result
-        (disk (D.medium device.new) ≡ synced (appended (record { at = generation % 2; bytes = superblock.now }) (synced (grown (run_at (place generation) (pieces parts text.now)) (disk (D.medium device.old)))))) }
+        (disk (D.medium device.new)
+        ≡ synced (appended (record { at = generation % 2; bytes = superblock.now })
+        (synced (grown (run_at (place generation) (pieces parts text.now))
+        (disk (D.medium device.old)))))) }
     ensures counts { AtMost 0 42 2 (D.medium device.old).calls (D.medium device.new).calls }
-    ensures made { OnOk result (CallsMade (parts + 1) 2 (D.medium device.old).calls (D.medium device.new).calls) }
-    ensures faults { (D.medium device.new).calls.faults ≡ faults_after (is_ok result) (D.medium device.old).calls.faults }
+    ensures made { OnOk result
+        (CallsMade (parts + 1) 2 (D.medium device.old).calls (D.medium device.new).calls) }
+    ensures faults { (D.medium device.new).calls.faults
+        ≡ faults_after (is_ok result) (D.medium device.old).calls.faults }
     ensures stops { OnErr result (IsTrue (D.medium device.new).calls.last_faulted) }
     ensures same_size { (D.medium device.new).size ≡ (D.medium device.old).size }
     ensures same_lasting { (D.medium device.new).lasting ≡ (D.medium device.old).lasting }

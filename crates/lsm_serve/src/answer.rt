@@ -39,7 +39,8 @@ pub(crate) fn text_of(
     answer: &Answer,
 ) -> Result<Vec<u8>, Refusal>
     requires { IsTellable answer.now }
-    ensures text { IfOk result (λ text. text.items ≡ tag.now ++ outcome_text number (outcome_of answer.now)) }
+    ensures text { IfOk result
+        (λ text. text.items ≡ tag.now ++ outcome_text number (outcome_of answer.now)) }
     ensures refused { IfErr result (λ e. e ≡ NoMemory) }
 {
     let mut line = Vec::new(alloc);
@@ -52,7 +53,8 @@ pub(crate) fn text_of(
 // The text of an answer without a tag.
 fn untagged(alloc: Global, number: u64, answer: &Answer) -> Result<String, Refusal>
     requires { IsTellable answer.now }
-    ensures text { IfOk result (λ text. string_bytes text ≡ outcome_text number (outcome_of answer.now)) }
+    ensures text { IfOk result
+        (λ text. string_bytes text ≡ outcome_text number (outcome_of answer.now)) }
     ensures refused { IfErr result (λ e. e ≡ NoMemory) }
 {
     match answer {
@@ -72,7 +74,8 @@ fn untagged(alloc: Global, number: u64, answer: &Answer) -> Result<String, Refus
 
 fn reply_text(alloc: Global, counted: Counted, reply: &Reply) -> Result<String, Refusal>
     requires { told_of reply.now ≡ Replied (reply_of reply.now) }
-    ensures text { IfOk result (λ text. string_bytes text ≡ reply_line counted (reply_of reply.now)) }
+    ensures text { IfOk result
+        (λ text. string_bytes text ≡ reply_line counted (reply_of reply.now)) }
     ensures refused { IfErr result (λ e. e ≡ NoMemory) }
 {
     let mut text = String::new(alloc);
@@ -124,7 +127,9 @@ fn usage_text(alloc: Global, number: u64, what: &str) -> Result<String, Refusal>
 }
 
 fn mistake_text(alloc: Global, mistake: &Mistake) -> Result<String, Refusal>
-    ensures text { IfOk result (λ text. string_bytes text ≡ mistake_text mistake.now.expected (string_bytes mistake.now.found)) }
+    ensures text { IfOk result
+        (λ text. string_bytes text
+        ≡ mistake_text mistake.now.expected (string_bytes mistake.now.found)) }
     ensures refused { IfErr result (λ e. e ≡ NoMemory) }
 {
     let part = mistake.expected.part();

@@ -11,7 +11,9 @@ use lsm_lives::laws::steps_go_on;
 /// steps of the store, and what the answers tell are its replies. Where the device backs the state the machine allows them, and at
 /// every moment every crash leaves what that run may leave.
 pub fn answered_lines_go_on()
-    ensures { (before : StoreView) (lines : List (List ℕ)) (answers : List Answered) (after : StoreView) → AnswersLines before lines answers after → IsCourse before lines answers after }
+    ensures { (before : StoreView) (lines : List (List ℕ)) (answers : List Answered)
+        (after : StoreView) → AnswersLines before lines answers after
+        → IsCourse before lines answers after }
 {
     steps_go_on();
 }

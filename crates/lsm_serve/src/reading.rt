@@ -41,7 +41,9 @@ pub(crate) fn next_line<I: BufRead>(
     input: &mut I,
     line: &mut Vec<u8>,
 ) -> Result<Option<bool>, Fault>
-    ensures line { IfOk result (λ found. TakesLine (I.remaining input.old) (is_some found) line.new.items (I.remaining input.new)) }
+    ensures line { IfOk result
+        (λ found. TakesLine (I.remaining input.old) (is_some found) line.new.items
+        (I.remaining input.new)) }
     ensures fails { IfErr result (λ e. IsInputFault (reason_of e)) }
 {
     line.clear();
@@ -69,7 +71,9 @@ fn ended(begun: &[u8]) -> Result<Option<bool>, Fault>
 // Takes what was read of a line, and appends it to what is kept of it.
 fn take_piece<I: BufRead>(input: &mut I, line: &mut Vec<u8>) -> Result<Taken, Fault>
     requires { length line.old.items ≤ most_kept }
-    ensures takes { IfOk result (λ taken. Takes (I.remaining input.old) line.old.items taken line.new.items (I.remaining input.new)) }
+    ensures takes { IfOk result
+        (λ taken. Takes (I.remaining input.old) line.old.items taken line.new.items
+        (I.remaining input.new)) }
     ensures fails { IfErr result (λ e. IsInputFault (reason_of e)) }
 {
     let read = match input.fill_buf() {

@@ -37,7 +37,8 @@ pub fn serve<D: Device, I: BufRead, O: Write>(
     input: &mut I,
     output: &mut O,
 ) -> Result<(), Fault>
-    ensures { IsServed (I.remaining input.old) result store.old store.new (O.contents output.old) (O.contents output.new) }
+    ensures { IsServed (I.remaining input.old) result store.old store.new (O.contents output.old)
+        (O.contents output.new) }
 {
     let answered = answer_lines(alloc, store, input, output);
     let synced = sync(store);
@@ -47,7 +48,8 @@ pub fn serve<D: Device, I: BufRead, O: Write>(
 
 // Syncs a store that is not stopped.
 fn sync<D: Device>(store: &mut Store<D>) -> Result<(), Fault>
-    ensures { MatchResult result (λ _. IsSynced store.old store.new) (λ e. IsUnsynced e store.old store.new) }
+    ensures { MatchResult result (λ _. IsSynced store.old store.new)
+        (λ e. IsUnsynced e store.old store.new) }
 {
     match store.sync() {
         Ok(()) => Ok(()),
@@ -63,7 +65,8 @@ fn answer_lines<D: Device, I: BufRead, O: Write>(
     input: &mut I,
     output: &mut O,
 ) -> Result<(), Fault>
-    ensures { AreServed (I.remaining input.old) result store.old store.new (O.contents output.old) (O.contents output.new) }
+    ensures { AreServed (I.remaining input.old) result store.old store.new (O.contents output.old)
+        (O.contents output.new) }
 {
     let mut held = Vec::new(alloc);
     let answered = hold_answers(alloc, store, input, &mut held, output);
@@ -83,7 +86,8 @@ fn hold_answers<D: Device, I: BufRead, O: Write>(
     output: &mut O,
 ) -> Result<(), Fault>
     requires { held.old.items ≡ [] }
-    ensures { AreHeld (I.remaining input.old) result store.old store.new (O.contents output.old) (O.contents output.new) held.new.items }
+    ensures { AreHeld (I.remaining input.old) result store.old store.new (O.contents output.old)
+        (O.contents output.new) held.new.items }
 {
     let mut line = Vec::new(alloc);
     let mut upkeep = Upkeep::new();
@@ -121,7 +125,8 @@ fn hold(
     held: &mut Vec<u8>,
 ) -> Result<(), Refusal>
     requires { IsTellable answer.now }
-    ensures { IsAdded result held.old.items (tag_in line.now ++ outcome_text number (outcome_of answer.now)) held.new.items }
+    ensures { IsAdded result held.old.items
+        (tag_in line.now ++ outcome_text number (outcome_of answer.now)) held.new.items }
 {
     let (tag, _) = part_line(line);
     let text = text_of(alloc, number, tag, answer)?;
@@ -131,7 +136,9 @@ fn hold(
 
 // Writes what is held, unless another line was read already and it is little.
 fn write_unless<O: Write>(ahead: bool, held: &mut Vec<u8>, output: &mut O) -> Result<(), Fault>
-    ensures { MatchResult result (λ _. KeepsHeld (O.contents output.old) held.old.items (O.contents output.new) held.new.items) (λ e. reason_of e ≡ unwritten) }
+    ensures { MatchResult result
+        (λ _. KeepsHeld (O.contents output.old) held.old.items
+        (O.contents output.new) held.new.items) (λ e. reason_of e ≡ unwritten) }
 {
     if ahead && held.len() < MOST_HELD {
         return Ok(());
@@ -141,7 +148,9 @@ fn write_unless<O: Write>(ahead: bool, held: &mut Vec<u8>, output: &mut O) -> Re
 
 // Writes what is held, if anything is, and flushes it.
 fn write_held<O: Write>(held: &mut Vec<u8>, output: &mut O) -> Result<(), Fault>
-    ensures { MatchResult result (λ _. KeepsHeld (O.contents output.old) held.old.items (O.contents output.new) [] × (held.new.items ≡ []))
+    ensures { MatchResult result
+        (λ _. KeepsHeld (O.contents output.old) held.old.items (O.contents output.new) []
+        × (held.new.items ≡ []))
         (λ e. (reason_of e ≡ unwritten) × (1 ≤ length held.old.items)) }
 {
     if held.is_empty() {

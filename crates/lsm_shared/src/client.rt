@@ -109,7 +109,8 @@ impl<A: Allocator + Clone, B: SessionName> Client<A, B> {
         shared: &Shared<D, A, B>,
         call: Call<A>,
     ) -> Result<Reply<A>, Refusal>
-        ensures made { IfOk result (λ reply. MakesCall self.old (call_of call) (told_of reply) self.new) }
+        ensures made { IfOk result
+            (λ reply. MakesCall self.old (call_of call) (told_of reply) self.new) }
         ensures refused { IfErr result (λ e. IsNoCall self.old (call_of call) e self.new) }
     {
         shared.hold(rt).serve(&shared.counters, self, call)
@@ -130,7 +131,8 @@ impl<A: Allocator + Clone, B: SessionName> Client<A, B> {
         rt: &R,
         shared: &Shared<D, A, B>,
     ) -> Result<Turn<A>, Refusal>
-        ensures taken { MatchResult result (λ turn. TakesTurn self.old turn self.new) (λ e. IsNoTurn self.old e self.new) }
+        ensures taken { MatchResult result (λ turn. TakesTurn self.old turn self.new)
+            (λ e. IsNoTurn self.old e self.new) }
         // What was built of the input may be brought, then and later.
         ensures lent { IfOk result (λ turn. HasLent turn self.new) }
     {
@@ -148,7 +150,8 @@ impl<A: Allocator + Clone, B: SessionName> Client<A, B> {
         rt: &R,
         shared: &Shared<D, A, B>,
     ) -> Result<Turn<A>, Refusal>
-        ensures taken { MatchResult result (λ turn. TakesDue self.old turn self.new) (λ e. IsNotDue self.old e self.new) }
+        ensures taken { MatchResult result (λ turn. TakesDue self.old turn self.new)
+            (λ e. IsNotDue self.old e self.new) }
         // What was built of the input may be brought, then and later.
         ensures lent { IfOk result (λ turn. HasLent turn self.new) }
     {

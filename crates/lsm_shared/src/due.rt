@@ -59,7 +59,9 @@ pub(crate) fn is_flush_due<D: Device, A: Allocator>(store: &Store<D, A>) -> bool
 
 // This place, where the slot is free and a flush is due, or where it holds a flush.
 fn if_for_flush<A: Allocator>(jobs: &Slots<A>, is_due: bool, place: usize) -> usize
-    ensures { result ≡ (if is_for_flush is_due jobs.now.slots (slice_index_or jobs.now.slots place None) then place else 4) }
+    ensures { result
+        ≡ (if is_for_flush is_due jobs.now.slots (slice_index_or jobs.now.slots place None)
+        then place else 4) }
 {
     if is_for_flush(jobs, is_due, place) {
         place
@@ -69,7 +71,8 @@ fn if_for_flush<A: Allocator>(jobs: &Slots<A>, is_due: bool, place: usize) -> us
 }
 
 fn is_for_flush<A: Allocator>(jobs: &Slots<A>, is_due: bool, place: usize) -> bool
-    ensures { result ≡ is_for_flush is_due jobs.now.slots (slice_index_or jobs.now.slots place None) }
+    ensures { result ≡ is_for_flush is_due jobs.now.slots
+        (slice_index_or jobs.now.slots place None) }
 {
     match jobs.turn_at(place) {
         Some(turn) => takes_in_none(jobs, turn.job),
@@ -79,7 +82,9 @@ fn is_for_flush<A: Allocator>(jobs: &Slots<A>, is_due: bool, place: usize) -> bo
 
 // This place, where the slot holds a merge.
 fn if_for_merge<A: Allocator>(jobs: &Slots<A>, place: usize) -> usize
-    ensures { result ≡ (if is_for_merge jobs.now.slots (slice_index_or jobs.now.slots place None) then place else 4) }
+    ensures { result
+        ≡ (if is_for_merge jobs.now.slots (slice_index_or jobs.now.slots place None) then place
+        else 4) }
 {
     if is_for_merge(jobs, place) {
         place

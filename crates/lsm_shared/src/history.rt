@@ -52,7 +52,8 @@ fn counted(count: u64, is_one: bool) -> u64
 impl<A: Allocator, B: SessionName> History<A, B> {
     /// A history with no entry, whose clients are dealt.
     pub(crate) fn new(trail: Trail<A>, keeper: Pass<A>) -> History<A, B>
-        requires keeper { IsKeeperPass B.id [] keeper × ((keeper_of keeper).dealt ≡ B.id.begin.clients) }
+        requires keeper { IsKeeperPass B.id [] keeper
+            × ((keeper_of keeper).dealt ≡ B.id.begin.clients) }
         requires legal { IsLegal B.id.begin [] }
         requires trail { trail ≡ record { log = []; limit = B.id.begin.limit } }
         requires small { B.id.begin.limit ≤ 65536 }
@@ -110,7 +111,8 @@ impl<A: Allocator, B: SessionName> History<A, B> {
         requires machine { entry.machine ≡ machine_of store.now }
         ensures log { self.new ≡ self.old ++ entry ∷ [] }
         ensures legal { IsLegal B.id.begin self.new }
-        ensures client { client.new ≡ known B.id.begin client.old.number self.new (client.old.mine ++ entry ∷ []) }
+        ensures client { client.new
+            ≡ known B.id.begin client.old.number self.new (client.old.mine ++ entry ∷ []) }
     {
         self.calls = counted(self.calls, entry.is_call());
         self.builds = counted(self.builds, entry.is_lent());

@@ -26,8 +26,11 @@ pub fn prepare<D: Device, A: Allocator + Clone>(
     trail: u32,
 ) -> Result<Opened<D, A>, (Refusal, Store<D, A>)>
     ensures { MatchResult result
-        (λ o. (begin_refusal store.state clients trail ≡ None) × (o.begin ≡ begin_with store clients trail))
-        (λ e. (e.1 ≡ store) × ((begin_refusal store.state clients trail ≡ Some e.0) ⊎ ((begin_refusal store.state clients trail ≡ None) × (e.0 ≡ NoMemory)))) }
+        (λ o. (begin_refusal store.state clients trail ≡ None)
+        × (o.begin ≡ begin_with store clients trail))
+        (λ e. (e.1 ≡ store)
+        × ((begin_refusal store.state clients trail ≡ Some e.0)
+        ⊎ ((begin_refusal store.state clients trail ≡ None) × (e.0 ≡ NoMemory)))) }
 {
     if let Err(refusal) = check(&store, clients, trail) {
         return Err((refusal, store));
@@ -50,7 +53,8 @@ fn check<D: Device, A: Allocator>(
     trail: u32,
 ) -> Result<(), Refusal>
     ensures { MatchResult result
-        (λ _. (begin_refusal store.now.state clients trail ≡ None) × (0 < clients) × (trail ≤ 65536) × CanPin (begin_with store.now clients trail))
+        (λ _. (begin_refusal store.now.state clients trail ≡ None) × (0 < clients) × (trail ≤ 65536)
+        × CanPin (begin_with store.now clients trail))
         (λ e. begin_refusal store.now.state clients trail ≡ Some e) }
 {
     store.log_room()?;

@@ -48,7 +48,8 @@ impl<D: Device, A: Allocator, B: SessionName> Session<D, A, B> {
         trail: Trail<A>,
         keeper: Pass<A>,
     ) -> Session<D, A, B>
-        requires keeper { IsKeeperPass B.id [] keeper × ((keeper_of keeper).dealt ≡ B.id.begin.clients) }
+        requires keeper { IsKeeperPass B.id [] keeper
+            × ((keeper_of keeper).dealt ≡ B.id.begin.clients) }
         requires pinned { IsPinned B.id.begin base store }
         requires trail { trail ≡ record { log = []; limit = B.id.begin.limit } }
         requires small { B.id.begin.limit ≤ 65536 }
@@ -66,7 +67,8 @@ impl<D: Device, A: Allocator, B: SessionName> Session<D, A, B> {
     pub(crate) fn show(&mut self, counters: &Counters<D, A, B>, client: &mut Client<A, B>)
         ensures same { self.new ≡ self.old }
         ensures finds { Finds B.id self.old client.old }
-        ensures known { client.new ≡ known B.id.begin client.old.number self.old.log client.old.mine }
+        ensures known { client.new
+            ≡ known B.id.begin client.old.number self.old.log client.old.mine }
     {
         self.history.show(counters, client);
     }
@@ -86,9 +88,11 @@ impl<D: Device, A: Allocator, B: SessionName> Session<D, A, B> {
         ensures trail { result.1 ≡ record { log = self.log; limit = B.id.begin.limit } }
         ensures legal { IsLegal B.id.begin self.log }
         ensures state { result.0.state ≡ ended_state B.id.begin self.log }
-        ensures work { IsNone result.0.state.stopped → result.0.work ≡ (machine_after B.id.begin self.log).work }
+        ensures work { IsNone result.0.state.stopped
+            → result.0.work ≡ (machine_after B.id.begin self.log).work }
         ensures backed { IsBacked B.id.begin.store → IsBacked result.0 }
-        ensures device { IsDeviceAfter B.id.begin.store.device (replies_of self.log) result.0.device }
+        ensures device { IsDeviceAfter B.id.begin.store.device
+            (replies_of self.log) result.0.device }
         ensures room { length self.log ≤ B.id.begin.limit }
     {
         let Session {
@@ -110,8 +114,10 @@ impl<D: Device, A: Allocator + Clone, B: SessionName> Session<D, A, B> {
         me: &mut Client<A, B>,
         call: Call<A>,
     ) -> Result<Reply<A>, Refusal>
-        ensures made { IfOk result (λ reply. IsMade B.id self.old me.old (call_of call) (told_of reply) self.new me.new) }
-        ensures refused { IfErr result (λ e. IsRefused B.id self.old me.old (call_of call) e self.new me.new) }
+        ensures made { IfOk result
+            (λ reply. IsMade B.id self.old me.old (call_of call) (told_of reply) self.new me.new) }
+        ensures refused { IfErr result
+            (λ e. IsRefused B.id self.old me.old (call_of call) e self.new me.new) }
     {
         self.show(counters, me);
         if self.history.is_full() {
@@ -130,7 +136,8 @@ impl<D: Device, A: Allocator + Clone, B: SessionName> Session<D, A, B> {
 
 // Whether a call is to release the snapshot of this number.
 fn releases<A: Allocator>(call: &Call<A>, number: u64) -> bool
-    ensures { MatchBool result (call_of call.now ≡ Release number) (call_of call.now ≢ Release number) }
+    ensures { MatchBool result (call_of call.now ≡ Release number)
+        (call_of call.now ≢ Release number) }
 {
     match call {
         Call::Release(released) => *released == number,

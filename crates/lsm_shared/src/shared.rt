@@ -63,7 +63,8 @@ fn places<A: Allocator + Clone, B: SessionName>(
     limit: u32,
     count: u32,
 ) -> Result<(Trail<A>, Vec<Client<A, B>, A>), AllocError>
-    ensures { IfOk result (λ r. (r.0 ≡ record { log = []; limit = limit }) × (r.1.items ≡ []) × (count ≤ vec_capacity r.1)) }
+    ensures { IfOk result (λ r. (r.0 ≡ record { log = []; limit = limit }) × (r.1.items ≡ [])
+        × (count ≤ vec_capacity r.1)) }
 {
     let trail = Trail::new(alloc.clone()?, limit as usize)?;
     let clients = Vec::with_capacity(alloc, count as usize)?;
@@ -166,7 +167,8 @@ impl<D: Device, A: Allocator, B: SessionName> Shared<D, A, B> {
     ) -> Result<(Store<D, A>, Trail<A>), (Refusal, Shared<D, A, B>, Vec<Client<A, B>, A>)>
         ensures clients { MatchResult result
             (λ _. AreAll B.id.begin.clients clients.items)
-            (λ e. (¬ AreAll B.id.begin.clients clients.items) × (e.0 ≡ NotYours) × (e.1 ≡ self) × (e.2.items ≡ clients.items)) }
+            (λ e. (¬ AreAll B.id.begin.clients clients.items) × (e.0 ≡ NotYours) × (e.1 ≡ self)
+            × (e.2.items ≡ clients.items)) }
         ensures ended { IfOk result (λ r. IsEnded B.id.begin clients.items r.0 r.1) }
     {
         if !are_all(clients.as_slice(), self.clients) {

@@ -68,7 +68,8 @@ fn choose<D: Device, B: SessionName, R: Threads + Wait + Sync>(
     me: &mut Client<Global, B>,
     policy: &Policy,
 ) -> Result<bool, Refusal>
-    ensures { MatchResult result (λ busy. Chooses busy me.old me.new) (λ e. IsNoNext me.old e me.new) }
+    ensures { MatchResult result (λ busy. Chooses busy me.old me.new)
+        (λ e. IsNoNext me.old e me.new) }
 {
     let taken = me.take_next(rt, shared, policy)?;
     Ok(taken.is_some())
@@ -94,7 +95,8 @@ pub fn take_turn<D: Device, B: SessionName, R: Threads + Wait + Sync>(
     policy: &Policy,
     parts: u8,
 ) -> Result<bool, Refusal>
-    ensures takes { MatchResult result (λ busy. TakesWhole parts busy me.old me.new) (λ e. TakesPart parts e me.old me.new) }
+    ensures takes { MatchResult result (λ busy. TakesWhole parts busy me.old me.new)
+        (λ e. TakesPart parts e me.old me.new) }
     ensures works { MakesNoCall me.old me.new }
     ensures rests { IfOk result (λ busy. busy ≡ false → Rests me.new) }
 {
@@ -121,7 +123,8 @@ pub fn work<D: Device, B: SessionName, R: Threads + Wait + Sync>(
     parts: u8,
     turns: u32,
 ) -> Result<bool, Refusal>
-    ensures takes { MatchResult result (λ idle. TakesUpTo turns parts idle me.old me.new) (λ e. StopsWithin turns parts e me.old me.new) }
+    ensures takes { MatchResult result (λ idle. TakesUpTo turns parts idle me.old me.new)
+        (λ e. StopsWithin turns parts e me.old me.new) }
     ensures works { MakesNoCall me.old me.new }
     ensures rests { IfOk result (λ idle. idle ≡ true → Rests me.new) }
 {

@@ -43,7 +43,8 @@ impl<D: Device, A: Allocator + Clone, B: SessionName> Session<D, A, B> {
         me: &mut Client<A, B>,
     ) -> Result<Turn<A>, Refusal>
         ensures { MatchResult result
-            (λ turn. TakesAmong B.id self.old me.old (places_from me.old.number) turn self.new me.new)
+            (λ turn. TakesAmong B.id self.old me.old (places_from me.old.number) turn self.new
+            me.new)
             (λ e. StopsAmong B.id self.old me.old (places_from me.old.number) e self.new me.new) }
     {
         self.show(counters, me);
@@ -58,8 +59,10 @@ impl<D: Device, A: Allocator + Clone, B: SessionName> Session<D, A, B> {
         me: &mut Client<A, B>,
     ) -> Result<Turn<A>, Refusal>
         ensures { MatchResult result
-            (λ turn. TakesAmong B.id self.old me.old (places_due (machine_of self.old.store) me.old.number) turn self.new me.new)
-            (λ e. StopsAmong B.id self.old me.old (places_due (machine_of self.old.store) me.old.number) e self.new me.new) }
+            (λ turn. TakesAmong B.id self.old me.old
+            (places_due (machine_of self.old.store) me.old.number) turn self.new me.new)
+            (λ e. StopsAmong B.id self.old me.old
+            (places_due (machine_of self.old.store) me.old.number) e self.new me.new) }
     {
         self.show(counters, me);
         let due = places_due(&self.store, me.number);
@@ -74,7 +77,8 @@ impl<D: Device, A: Allocator + Clone, B: SessionName> Session<D, A, B> {
         choice: Choice,
     ) -> Result<Option<Reply<A>>, Refusal>
         ensures { MatchResult result
-            (λ taken. IsTakenOf B.id self.old me.old choice (option_map told_of taken) self.new me.new)
+            (λ taken. IsTakenOf B.id self.old me.old choice (option_map told_of taken) self.new
+            me.new)
             (λ e. IsNotTakenOf B.id self.old me.old choice e self.new me.new) }
     {
         self.show(counters, me);
@@ -156,7 +160,8 @@ impl<D: Device, A: Allocator + Clone, B: SessionName> Session<D, A, B> {
     ) -> Result<Turn<A>, Refusal>
         requires seen { HasSeen B.id self.old me.old }
         requires gives { Gives (machine_of self.old.store) (work_of piece) }
-        ensures { (place : ℕ) → piece_at (machine_of self.old.store) place ≡ Some (work_of piece) → is_put_off (machine_of self.old.store) (work_of piece) ≡ false → MatchResult result
+        ensures { (place : ℕ) → piece_at (machine_of self.old.store) place ≡ Some (work_of piece)
+            → is_put_off (machine_of self.old.store) (work_of piece) ≡ false → MatchResult result
             (λ turn. TakesAmong B.id self.old me.old (place ∷ []) turn self.new me.new)
             (λ e. StopsAmong B.id self.old me.old (place ∷ []) e self.new me.new) }
     {
@@ -172,7 +177,8 @@ impl<D: Device, A: Allocator + Clone, B: SessionName> Session<D, A, B> {
         job: u64,
     ) -> Result<Turn<A>, Refusal>
         requires { HasSeen B.id self.old me.old }
-        ensures { (place : ℕ) → piece_at (machine_of self.old.store) place ≡ Some (Install job) → MatchResult result
+        ensures { (place : ℕ) → piece_at (machine_of self.old.store) place ≡ Some (Install job)
+            → MatchResult result
             (λ turn. TakesAmong B.id self.old me.old (place ∷ []) turn self.new me.new)
             (λ e. StopsAmong B.id self.old me.old (place ∷ []) e self.new me.new) }
     {
@@ -191,7 +197,8 @@ impl<D: Device, A: Allocator + Clone, B: SessionName> Session<D, A, B> {
         job: u64,
     ) -> Result<Turn<A>, Refusal>
         requires { HasSeen B.id self.old me.old }
-        ensures { (place : ℕ) → piece_at (machine_of self.old.store) place ≡ Some (Ask job) → MatchResult result
+        ensures { (place : ℕ) → piece_at (machine_of self.old.store) place ≡ Some (Ask job)
+            → MatchResult result
             (λ turn. TakesAmong B.id self.old me.old (place ∷ []) turn self.new me.new)
             (λ e. StopsAmong B.id self.old me.old (place ∷ []) e self.new me.new) }
     {
@@ -211,7 +218,8 @@ impl<D: Device, A: Allocator + Clone, B: SessionName> Session<D, A, B> {
     ) -> Result<Turn<A>, Refusal>
         requires seen { HasSeen B.id self.old me.old }
         requires lent { Works self.old.store (Ask job) (Handed (arc_value input)) self.old.store }
-        ensures { (place : ℕ) → piece_at (machine_of self.old.store) place ≡ Some (Ask job) → MatchResult result
+        ensures { (place : ℕ) → piece_at (machine_of self.old.store) place ≡ Some (Ask job)
+            → MatchResult result
             (λ turn. TakesAmong B.id self.old me.old (place ∷ []) turn self.new me.new)
             (λ e. StopsAmong B.id self.old me.old (place ∷ []) e self.new me.new) }
     {
@@ -234,7 +242,8 @@ impl<D: Device, A: Allocator + Clone, B: SessionName> Session<D, A, B> {
     ) -> Result<Turn<A>, Refusal>
         requires seen { HasSeen B.id self.old me.old }
         requires refused { Works self.old.store (Ask job) (Refused refusal) self.old.store }
-        ensures { (place : ℕ) → piece_at (machine_of self.old.store) place ≡ Some (Ask job) → MatchResult result
+        ensures { (place : ℕ) → piece_at (machine_of self.old.store) place ≡ Some (Ask job)
+            → MatchResult result
             (λ turn. TakesAmong B.id self.old me.old (place ∷ []) turn self.new me.new)
             (λ e. StopsAmong B.id self.old me.old (place ∷ []) e self.new me.new) }
     {
@@ -259,7 +268,8 @@ impl<D: Device, A: Allocator + Clone, B: SessionName> Session<D, A, B> {
         requires seen { HasSeen B.id self.old me.old }
         requires gives { Gives (machine_of self.old.store) (work_of piece) }
         ensures { MatchResult result
-            (λ reply. EntersStep B.id self.old me.old (Worked (work_of piece)) 0 (told_of reply) self.new me.new)
+            (λ reply. EntersStep B.id self.old me.old (Worked (work_of piece)) 0
+            (told_of reply) self.new me.new)
             (λ e. IsPutBack B.id self.old me.old (work_of piece) e self.new me.new) }
     {
         if self.history.is_full() {
@@ -283,7 +293,8 @@ impl<D: Device, A: Allocator + Clone, B: SessionName> Session<D, A, B> {
     ) -> Result<Reply<A>, Refusal>
         requires { WasLent me.old.mine job number built.now.input }
         ensures { MatchResult result
-            (λ reply. IsBroughtBy B.id self.old me.old job number built.now (told_of reply) self.new me.new)
+            (λ reply. IsBroughtBy B.id self.old me.old job number built.now
+            (told_of reply) self.new me.new)
             (λ e. StopsBringing B.id self.old me.old job number built.now e self.new me.new) }
     {
         self.show(counters, me);
@@ -307,7 +318,8 @@ impl<D: Device, A: Allocator + Clone, B: SessionName> Session<D, A, B> {
         requires seen { HasSeen B.id self.old me.old }
         requires lent { WasLent me.old.mine job number built.now.input }
         ensures { MatchResult result
-            (λ reply. EntersStep B.id self.old me.old (Worked (Accept job (Some built.now))) number (told_of reply) self.new me.new)
+            (λ reply. EntersStep B.id self.old me.old (Worked (Accept job (Some built.now))) number
+            (told_of reply) self.new me.new)
             (λ e. IsPutBack B.id self.old me.old (Accept job (Some built.now)) e self.new me.new) }
     {
         if self.history.is_full() {
@@ -325,7 +337,9 @@ impl<D: Device, A: Allocator + Clone, B: SessionName> Session<D, A, B> {
 // What a policy advises to take: nothing where the store is stopped, a flush is to be taken first, or a merge is held. So slots are
 // left for flushes.
 fn advised<D: Device, A: Allocator>(store: &Store<D, A>, policy: &Policy) -> Option<Choice>
-    ensures { IfSome result (λ choice. MayMerge (machine_of store.now) × MayChoose (machine_of store.now) choice × Gives (machine_of store.now) (Take (Some choice))) }
+    ensures { IfSome result (λ choice. MayMerge (machine_of store.now)
+        × MayChoose (machine_of store.now) choice
+        × Gives (machine_of store.now) (Take (Some choice))) }
 {
     let Ok(stat) = store.stat() else {
         return None;

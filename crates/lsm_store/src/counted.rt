@@ -20,7 +20,8 @@ fn is_last(counts: &[u64], count: u64) -> bool
 
 // Adds a count at the end, unless it is the last one already.
 fn add_count<A: Allocator>(cuts: &mut Vec<u64, A>, count: u64) -> Result<(), AllocError>
-    ensures { OnOk result ((before : List ℕ) → cuts.old.items ≡ each_once before → cuts.new.items ≡ each_once (before ++ count ∷ [])) }
+    ensures { OnOk result ((before : List ℕ) → cuts.old.items ≡ each_once before
+        → cuts.new.items ≡ each_once (before ++ count ∷ [])) }
 {
     if is_last(cuts, count) {
         return Ok(());
@@ -31,7 +32,8 @@ fn add_count<A: Allocator>(cuts: &mut Vec<u64, A>, count: u64) -> Result<(), All
 
 // Adds those at which snapshots were taken.
 fn add_counts<A: Allocator>(cuts: &mut Vec<u64, A>, marks: &[Mark]) -> Result<(), AllocError>
-    ensures { OnOk result ((before : List ℕ) → cuts.old.items ≡ each_once before → cuts.new.items ≡ each_once (before ++ map (λ mark. mark.count) marks.now)) }
+    ensures { OnOk result ((before : List ℕ) → cuts.old.items ≡ each_once before
+        → cuts.new.items ≡ each_once (before ++ map (λ mark. mark.count) marks.now)) }
 {
     for mark in marks {
         add_count(cuts, mark.count)?;

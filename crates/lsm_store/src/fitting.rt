@@ -30,7 +30,9 @@ fn spans<A: Allocator>(
     first: &[u8],
     last: &[u8],
 ) -> bool
-    ensures { result ≡ (list_any (λ t. at_most t.first first.now) (upper.now ++ lower.now) && list_any (λ t. at_most last.now t.last) (upper.now ++ lower.now)) }
+    ensures { result
+        ≡ (list_any (λ t. at_most t.first first.now) (upper.now ++ lower.now)
+        && list_any (λ t. at_most last.now t.last) (upper.now ++ lower.now)) }
 {
     let begins = some_begins_by(upper, first) || some_begins_by(lower, first);
     let ends = some_ends_from(upper, last) || some_ends_from(lower, last);

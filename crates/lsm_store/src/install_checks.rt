@@ -62,7 +62,8 @@ fn has_too_many_runs<A: Allocator>(runs: usize, written: &Written<'_, A>) -> boo
 fn live_after<A: Allocator>(live: usize, written: &Written<'_, A>) -> usize
     requires most { live + length (outputs_told written.now) ≤ 2 ^ 63 + 1 }
     requires taken_in { length (inputs (job_told written.now)) ≤ live }
-    ensures { result ≡ (live + length (outputs_told written.now)) - length (inputs (job_told written.now)) }
+    ensures { result ≡ (live + length (outputs_told written.now)) - length
+        (inputs (job_told written.now)) }
 {
     match written {
         Written::Flush { outputs } => live + outputs.len(),
@@ -79,7 +80,8 @@ fn live_after<A: Allocator>(live: usize, written: &Written<'_, A>) -> usize
 fn has_too_many_tables<A: Allocator>(live: usize, written: &Written<'_, A>) -> bool
     requires most { live + length (outputs_told written.now) ≤ 2 ^ 63 + 1 }
     requires taken_in { length (inputs (job_told written.now)) ≤ live }
-    ensures { result ≡ nat_lt 1024 ((live + length (outputs_told written.now)) - length (inputs (job_told written.now))) }
+    ensures { result ≡ nat_lt 1024
+        ((live + length (outputs_told written.now)) - length (inputs (job_told written.now))) }
 {
     live_after(live, written) > MOST_TABLES
 }
@@ -88,7 +90,9 @@ impl<A: Allocator> Memory<A> {
     /// Whether the state refuses an install.
     pub(crate) fn check_install(&self, job: u64) -> Result<(), Refusal>
         requires { AreConsistent self.now }
-        ensures { Passes (work_refusal (record { state = state_of self.now; work = work_of self.now }) (Install job)) result }
+        ensures { Passes
+            (work_refusal (record { state = state_of self.now; work = work_of self.now })
+            (Install job)) result }
     {
         self.check_running()?;
         let runs = self.levels.runs().len();

@@ -57,9 +57,12 @@ impl<A: Allocator> Memory<A> {
 
     // The batches in the closed regions are in tables, where a flush was installed.
     fn settle(&mut self, flush: bool)
-        ensures layout { layout_of self.new.regions ≡ settled_layout flush self.old.count (layout_of self.old.regions) }
-        ensures waits { option_map arc_value self.new.sealed ≡ (if flush then None else option_map arc_value self.old.sealed) }
-        ensures same { self.new ≡ record self.old { regions = self.new.regions; sealed = self.new.sealed } }
+        ensures layout { layout_of self.new.regions
+            ≡ settled_layout flush self.old.count (layout_of self.old.regions) }
+        ensures waits { option_map arc_value self.new.sealed
+            ≡ (if flush then None else option_map arc_value self.old.sealed) }
+        ensures same { self.new
+            ≡ record self.old { regions = self.new.regions; sealed = self.new.sealed } }
     {
         if !flush {
             return;
@@ -74,7 +77,8 @@ impl<A: Allocator> Memory<A> {
         requires kept { AreConsistent self.old }
         requires next { IsNext self.old job next.flush next.levels }
         requires generation_high { self.old.regions.generation < 2 ^ 63 }
-        ensures { (slot : Slot) → slot_of job self.old.jobs.slots ≡ Some slot → IsInstalledTo self.old job slot next.levels self.new }
+        ensures { (slot : Slot) → slot_of job self.old.jobs.slots ≡ Some slot
+            → IsInstalledTo self.old job slot next.levels self.new }
     {
         self.extents.partition();
         let _runs = self.levels.runs();
@@ -103,7 +107,9 @@ impl<A: Allocator + Clone> Memory<A> {
         requires kept { AreConsistent self.now }
         requires written { IsAtStage is_written (slot_of job self.now.jobs.slots) }
         ensures next { IfOk result (λ next. IsNext self.now job next.flush next.levels) }
-        ensures refused { IfErr result (λ e. (e ≡ Refusal.NoMemory) ⊎ ((e ≡ Refusal.BadTable) × IsUnfit (slot_of job self.now.jobs.slots))) }
+        ensures refused { IfErr result
+            (λ e. (e ≡ Refusal.NoMemory)
+            ⊎ ((e ≡ Refusal.BadTable) × IsUnfit (slot_of job self.now.jobs.slots))) }
     {
         let written = self.jobs.written(job)?;
         if !fit(&written) {
@@ -118,7 +124,9 @@ impl<A: Allocator + Clone> Memory<A> {
     fn installed_manifest(&self, next: &Installed<A>) -> Result<Manifest<A>, AllocError>
         requires few { length next.now.levels.runs ≤ 12 }
         requires generation_high { self.now.regions.generation < 2 ^ 63 }
-        ensures { IfOk result (λ manifest. manifest ≡ contents_for (placed_in (next_layout next.now.flush self.now) next.now.levels (records_of next.now.levels))) }
+        ensures { IfOk result (λ manifest. manifest
+            ≡ contents_for (placed_in (next_layout next.now.flush self.now) next.now.levels
+            (records_of next.now.levels))) }
     {
         let alloc = self.allocator();
         let records = table_records(alloc.clone()?, &next.levels)?;
@@ -140,7 +148,9 @@ impl<A: Allocator + Clone> Memory<A> {
         ensures root { IfOk result (λ root. root ≡ record {
           size = sectors;
           log = self.now.regions.log_sectors;
-          manifest = contents_for (placed_in (next_layout next.now.flush self.now) next.now.levels (records_of next.now.levels));
+          manifest = contents_for
+              (placed_in (next_layout next.now.flush self.now) next.now.levels
+              (records_of next.now.levels));
         }) }
         ensures refused { IfErr result (λ e. e ≡ Refusal.NoMemory) }
     {
@@ -162,7 +172,9 @@ pub(crate) fn install<D: Device, A: Allocator + Clone>(
 ) -> Result<(), Refusal>
     requires kept { AreConsistent memory.old }
     requires inside { IsInside (D.medium device.old).size memory.old }
-    ensures works { (cache : Cached) → Works (view_of (D.medium device.old) memory.old cache) (Install job) (reply_of (λ _. Done) result) (view_of (D.medium device.new) memory.new cache) }
+    ensures works { (cache : Cached)
+        → Works (view_of (D.medium device.old) memory.old cache) (Install job)
+        (reply_of (λ _. Done) result) (view_of (D.medium device.new) memory.new cache) }
     ensures numbered { OnOk result (memory.new.regions.next_table ≡ memory.old.next_table) }
     ensures kept { AreConsistent memory.new }
     ensures inside { IsInside (D.medium device.new).size memory.new }

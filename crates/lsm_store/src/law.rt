@@ -13,9 +13,11 @@ pub fn no_guards_are_a_commit()
     ensures serves { (old new : StoreView) (batch : List Operation) (reply : Reply)
         → Serves old (CommitIf [] batch) reply new ↔ Serves old (Commit batch) reply new }
     ensures allows { (m : Machine) (batch : List Operation) (reply : Reply)
-        → AllowsStep m (Called (CommitIf [] batch)) reply ↔ AllowsStep m (Called (Commit batch)) reply }
+        → AllowsStep m (Called (CommitIf [] batch)) reply
+        ↔ AllowsStep m (Called (Commit batch)) reply }
     ensures machine { (m : Machine) (batch : List Operation) (reply : Reply)
-        → next_machine m (Called (CommitIf [] batch)) reply ≡ next_machine m (Called (Commit batch)) reply }
+        → next_machine m (Called (CommitIf [] batch)) reply
+        ≡ next_machine m (Called (Commit batch)) reply }
     ensures left { (m : Machine) (batch : List Operation)
         → left_in_step m (Called (CommitIf [] batch)) ≡ left_in_step m (Called (Commit batch)) }
 {}

@@ -29,7 +29,8 @@ fn add_run<A: Allocator + Clone>(
 ) -> Result<(), AllocError>
     requires run { IsRun tables.now }
     requires some { 0 < length tables.now }
-    ensures { OnOk result (levels.new ≡ record { runs = tables.now ∷ levels.old.runs; deeper = levels.old.deeper }) }
+    ensures { OnOk result (levels.new
+        ≡ record { runs = tables.now ∷ levels.old.runs; deeper = levels.old.deeper }) }
 {
     let run = shared_run(alloc, tables)?;
     levels.add_run(run)?;
@@ -43,7 +44,8 @@ fn add_runs<A: Allocator + Clone>(
     runs: &[Run<A>],
 ) -> Result<(), AllocError>
     requires { AllByRecursion (λ run. 0 < length run) runs.now }
-    ensures { OnOk result (levels.new ≡ record { runs = runs.now ++ levels.old.runs; deeper = levels.old.deeper }) }
+    ensures { OnOk result (levels.new
+        ≡ record { runs = runs.now ++ levels.old.runs; deeper = levels.old.deeper }) }
 {
     match runs {
         [] => Ok(()),
@@ -92,7 +94,8 @@ fn put<A: Allocator + Clone>(
 ) -> Result<(), AllocError>
     requires has { (bottom : Bool) × IsHeld levels.old bottom (job_told written.now) }
     requires fit { AreOutputs (job_told written.now) (outputs_told written.now) }
-    ensures { OnOk result (levels.new ≡ installed_levels levels.old (job_told written.now) (outputs_told written.now)) }
+    ensures { OnOk result (levels.new
+        ≡ installed_levels levels.old (job_told written.now) (outputs_told written.now)) }
 {
     match written {
         Written::Flush { outputs } => {
@@ -120,7 +123,8 @@ pub(crate) fn next_levels<A: Allocator + Clone>(
 ) -> Result<Levels<A>, AllocError>
     requires has { (bottom : Bool) × IsHeld levels.now bottom (job_told written.now) }
     requires fit { AreOutputs (job_told written.now) (outputs_told written.now) }
-    ensures { IfOk result (λ next. next ≡ installed_levels levels.now (job_told written.now) (outputs_told written.now)) }
+    ensures { IfOk result (λ next. next
+        ≡ installed_levels levels.now (job_told written.now) (outputs_told written.now)) }
 {
     let mut next = shared_levels(alloc, levels)?;
     put(&mut next, alloc, written)?;

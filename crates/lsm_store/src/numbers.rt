@@ -19,7 +19,8 @@ impl<D: Device, A: Allocator> Store<D, A> {
 
     /// How large those in the immutable memtable are at most, where one waits for a flush.
     pub fn sealed_size(&self) -> Option<MemSize>
-        ensures covers { MatchOption result (self.now.work.sealed ≡ []) (Covers self.now.work.sealed) }
+        ensures covers { MatchOption result (self.now.work.sealed ≡ [])
+            (Covers self.now.work.sealed) }
         ensures none { self.now.work.sealed ≡ [] → IfSome result (λ size. size ≡ no_size) }
     {
         match &self.memory.sealed {

@@ -15,5 +15,7 @@ pub fn opened_work_is_sound()
 
 /// A store that an opening of what a crash left answers is the machine with which the promise over crashes begins.
 pub fn openings_are_opened()
-    ensures { (before : Medium) (log_sectors : ℕ) (left : CrashState) (s : StoreView) → OpensTo before log_sectors left s → ReopensTo before s → IsOpened log_sectors left (machine_of s) }
+    ensures { (before : Medium) (log_sectors : ℕ) (left : CrashState) (s : StoreView)
+        → OpensTo before log_sectors left s → ReopensTo before s
+        → IsOpened log_sectors left (machine_of s) }
 {}

@@ -16,7 +16,8 @@ const SLOT_COUNT: usize = 4;
 
 /// What a job waits for.
 fn piece_of(turn: JobTurn) -> Piece
-    ensures { (slot : Slot) → turn ≡ turn_of slot → work_of_piece result ≡ piece_of_job slot.number slot.stage }
+    ensures { (slot : Slot) → turn ≡ turn_of slot
+        → work_of_piece result ≡ piece_of_job slot.number slot.stage }
 {
     match turn.piece {
         NextPiece::Read => Piece::Read(turn.job),
@@ -30,7 +31,8 @@ impl<A: Allocator> Memory<A> {
     // Whether a job comes next and a slot is free for it.
     fn is_job_next(&self) -> bool
         requires { AreConsistent self.now }
-        ensures { result ≡ is_some (job_given (record { state = state_of self.now; work = work_of self.now }) None) }
+        ensures { result ≡ is_some
+            (job_given (record { state = state_of self.now; work = work_of self.now }) None) }
     {
         match self.jobs.has_next(&self.levels, None, self.is_waiting()) {
             Ok(given) => given,
@@ -41,7 +43,8 @@ impl<A: Allocator> Memory<A> {
     // What a free slot waits for.
     fn piece_of_free(&self) -> Option<Piece>
         requires { AreConsistent self.now }
-        ensures { option_map work_of_piece result ≡ piece_of_slot (record { state = state_of self.now; work = work_of self.now }) None }
+        ensures { option_map work_of_piece result
+            ≡ piece_of_slot (record { state = state_of self.now; work = work_of self.now }) None }
     {
         if self.is_job_next() {
             Some(Piece::Take)
@@ -53,7 +56,9 @@ impl<A: Allocator> Memory<A> {
     // What the slot at a place waits for while the store runs, free where there is no such place.
     fn piece_of_slot(&self, place: usize) -> Option<Piece>
         requires { AreConsistent self.now }
-        ensures { option_map work_of_piece result ≡ piece_of_slot (record { state = state_of self.now; work = work_of self.now }) (slice_index_or self.now.jobs.slots place None) }
+        ensures { option_map work_of_piece result
+            ≡ piece_of_slot (record { state = state_of self.now; work = work_of self.now })
+            (slice_index_or self.now.jobs.slots place None) }
     {
         match self.jobs.turn_at(place) {
             Some(turn) => Some(piece_of(turn)),
@@ -64,7 +69,8 @@ impl<A: Allocator> Memory<A> {
     /// What the slot at a place waits for.
     pub(crate) fn piece_at(&self, place: usize) -> Option<Piece>
         requires { AreConsistent self.now }
-        ensures { option_map work_of_piece result ≡ piece_at (record { state = state_of self.now; work = work_of self.now }) place }
+        ensures { option_map work_of_piece result
+            ≡ piece_at (record { state = state_of self.now; work = work_of self.now }) place }
     {
         if place >= SLOT_COUNT {
             return None;

@@ -32,7 +32,8 @@ use std::alloc::Allocator;
 // Memory, sealed memory and the tables.
 fn view_of<A: Allocator>(memory: &Memory<A>) -> ReadView<'_, A>
     ensures memory { result.mem.now ≡ memory.now.mem }
-    ensures sealed { sealed_now result.sealed ≡ sealed_versions (option_map arc_value memory.now.sealed) }
+    ensures sealed { sealed_now result.sealed
+        ≡ sealed_versions (option_map arc_value memory.now.sealed) }
     ensures levels { result.levels.now ≡ memory.now.levels }
     ensures area { result.area ≡ first_data memory.now.regions.log_sectors }
 {
@@ -53,16 +54,27 @@ pub(crate) fn look_up<D: Device, A: Allocator + Clone>(
     count: u64,
 ) -> Result<Option<Vec<u8, A>>, Refusal>
     requires { IsInside (D.medium device.old).size memory.now }
-    ensures answers { (place : Name → Option ℕ) → IsReadable place (first_data memory.now.regions.log_sectors) (places memory.now.levels) (record { cache = cache.old; medium = D.medium device.old })
+    ensures answers { (place : Name → Option ℕ)
+        → IsReadable place (first_data memory.now.regions.log_sectors) (places memory.now.levels)
+        (record { cache = cache.old; medium = D.medium device.old })
         → IsVersionOrder (versions_by_place (work_of memory.now))
         → MatchResult result
-        (λ value. option_map (λ v. v.items) value ≡ finite.get (map_of (versions_in (work_of memory.now)) count) key.now)
-        (λ refusal. (refusal ≡ Io) ⊎ ((refusal ≡ NoMemory) × (is_some (finite.get (map_of (versions_in (work_of memory.now)) count) key.now) ≡ true))) }
-    ensures looks { IsLookUp memory.now.mem (work_of memory.now).sealed (places memory.now.levels) (first_data memory.now.regions.log_sectors) key.now count (answer_of result)
-        (record { cache = cache.old; medium = D.medium device.old }) (record { cache = cache.new; medium = D.medium device.new }) }
-    ensures reads { ReadsThrough 128 (first_data memory.now.regions.log_sectors) memory.now.levels (faultless result)
-        (record { cache = cache.old; medium = D.medium device.old }) (record { cache = cache.new; medium = D.medium device.new }) }
-    ensures refused { IfErr result (λ refusal. (refusal ≡ Io) ⊎ ((refusal ≡ BadTable) ⊎ (refusal ≡ NoMemory))) }
+        (λ value. option_map (λ v. v.items) value
+        ≡ finite.get (map_of (versions_in (work_of memory.now)) count) key.now)
+        (λ refusal. (refusal ≡ Io)
+        ⊎ ((refusal ≡ NoMemory)
+        × (is_some (finite.get (map_of (versions_in (work_of memory.now)) count) key.now)
+        ≡ true))) }
+    ensures looks { IsLookUp memory.now.mem (work_of memory.now).sealed (places memory.now.levels)
+        (first_data memory.now.regions.log_sectors) key.now count (answer_of result)
+        (record { cache = cache.old; medium = D.medium device.old })
+        (record { cache = cache.new; medium = D.medium device.new }) }
+    ensures reads { ReadsThrough 128 (first_data memory.now.regions.log_sectors) memory.now.levels
+        (faultless result)
+        (record { cache = cache.old; medium = D.medium device.old })
+        (record { cache = cache.new; medium = D.medium device.new }) }
+    ensures refused { IfErr result
+        (λ refusal. (refusal ≡ Io) ⊎ ((refusal ≡ BadTable) ⊎ (refusal ≡ NoMemory))) }
 {
     let view = view_of(memory);
     view.find(memory.allocator(), cache, device, key, count)
@@ -77,15 +89,21 @@ fn ask_guard<D: Device, A: Allocator + Clone>(
     count: u64,
 ) -> Result<bool, Refusal>
     requires { IsInside (D.medium device.old).size memory.now }
-    ensures tests { IsTest memory.now.mem (work_of memory.now).sealed (places memory.now.levels) (first_data memory.now.regions.log_sectors) guard.now count result
-        (record { cache = cache.old; medium = D.medium device.old }) (record { cache = cache.new; medium = D.medium device.new }) }
-    ensures answers { (place : Name → Option ℕ) → IsReadable place (first_data memory.now.regions.log_sectors) (places memory.now.levels) (record { cache = cache.old; medium = D.medium device.old })
+    ensures tests { IsTest memory.now.mem (work_of memory.now).sealed (places memory.now.levels)
+        (first_data memory.now.regions.log_sectors) guard.now count result
+        (record { cache = cache.old; medium = D.medium device.old })
+        (record { cache = cache.new; medium = D.medium device.new }) }
+    ensures answers { (place : Name → Option ℕ)
+        → IsReadable place (first_data memory.now.regions.log_sectors) (places memory.now.levels)
+        (record { cache = cache.old; medium = D.medium device.old })
         → IsVersionOrder (versions_by_place (work_of memory.now))
         → MatchResult result
         (λ met. met ≡ is_met (map_of (versions_in (work_of memory.now)) count) guard.now)
         (λ refusal. refusal ≡ Io) }
-    ensures reads { ReadsThrough 128 (first_data memory.now.regions.log_sectors) memory.now.levels (faultless result)
-        (record { cache = cache.old; medium = D.medium device.old }) (record { cache = cache.new; medium = D.medium device.new }) }
+    ensures reads { ReadsThrough 128 (first_data memory.now.regions.log_sectors) memory.now.levels
+        (faultless result)
+        (record { cache = cache.old; medium = D.medium device.old })
+        (record { cache = cache.new; medium = D.medium device.new }) }
     ensures refused { IfErr result (λ refusal. (refusal ≡ Io) ⊎ (refusal ≡ BadTable)) }
 {
     let view = view_of(memory);
@@ -104,13 +122,19 @@ pub(crate) fn ask_guards<D: Device, A: Allocator + Clone>(
 ) -> Result<(), Refusal>
     requires inside { IsInside (D.medium device.old).size memory.now }
     requires few { first + length guards.now ≤ 255 }
-    ensures asks { AsksGuards memory.now.mem (work_of memory.now).sealed (places memory.now.levels) (first_data memory.now.regions.log_sectors) count first guards.now (refusal_of result)
-        (record { cache = cache.old; medium = D.medium device.old }) (record { cache = cache.new; medium = D.medium device.new }) }
-    ensures answers { (place : Name → Option ℕ) → IsReadable place (first_data memory.now.regions.log_sectors) (places memory.now.levels) (record { cache = cache.old; medium = D.medium device.old })
+    ensures asks { AsksGuards memory.now.mem (work_of memory.now).sealed (places memory.now.levels)
+        (first_data memory.now.regions.log_sectors) count first guards.now (refusal_of result)
+        (record { cache = cache.old; medium = D.medium device.old })
+        (record { cache = cache.new; medium = D.medium device.new }) }
+    ensures answers { (place : Name → Option ℕ)
+        → IsReadable place (first_data memory.now.regions.log_sectors) (places memory.now.levels)
+        (record { cache = cache.old; medium = D.medium device.old })
         → IsVersionOrder (versions_by_place (work_of memory.now))
         → AnswersGuards first (map_of (versions_in (work_of memory.now)) count) guards.now result }
-    ensures reads { ReadsThrough (128 * length guards.now) (first_data memory.now.regions.log_sectors) memory.now.levels (faultless result)
-        (record { cache = cache.old; medium = D.medium device.old }) (record { cache = cache.new; medium = D.medium device.new }) }
+    ensures reads { ReadsThrough (128 * length guards.now)
+        (first_data memory.now.regions.log_sectors) memory.now.levels (faultless result)
+        (record { cache = cache.old; medium = D.medium device.old })
+        (record { cache = cache.new; medium = D.medium device.new }) }
     ensures refused { IfErr result (MayEndGuards first (length guards.now)) }
 {
     match guards {
@@ -135,18 +159,31 @@ pub(crate) fn page<D: Device, A: Allocator + Clone>(
     limit: u64,
 ) -> Result<Page<A>, Refusal>
     requires { IsInside (D.medium device.old).size memory.now }
-    ensures answers { (place : Name → Option ℕ) → IsReadable place (first_data memory.now.regions.log_sectors) (places memory.now.levels) (record { cache = cache.old; medium = D.medium device.old })
+    ensures answers { (place : Name → Option ℕ)
+        → IsReadable place (first_data memory.now.regions.log_sectors) (places memory.now.levels)
+        (record { cache = cache.old; medium = D.medium device.old })
         → IsVersionOrder (versions_by_place (work_of memory.now))
         → MatchResult result
-        (λ page. page ≡ page_of (map_of (versions_in (work_of memory.now)) count) range.entry.0.now (option_map (λ to. to.now) range.entry.1) limit)
+        (λ page. page ≡ page_of (map_of (versions_in (work_of memory.now)) count) range.entry.0.now
+        (option_map (λ to. to.now) range.entry.1) limit)
         (λ refusal. (refusal ≡ Io) ⊎ (refusal ≡ NoMemory)) }
-    ensures pages { IsScan memory.now.mem (work_of memory.now).sealed (places memory.now.levels) (first_data memory.now.regions.log_sectors) range.entry.0.now (option_map (λ to. to.now) range.entry.1) limit count result
-        (record { cache = cache.old; medium = D.medium device.old }) (record { cache = cache.new; medium = D.medium device.new }) }
-    ensures scans { ScansRuns (first_data memory.now.regions.log_sectors) range.entry.0.now (places memory.now.levels) (refusal_of result)
-        (record { cache = cache.old; medium = D.medium device.old }) (record { cache = cache.new; medium = D.medium device.new }) }
-    ensures reads { ReadsThrough (8 * blocks_in (blocks_of_runs (first_data memory.now.regions.log_sectors) range.entry.0.now (places memory.now.levels))) (first_data memory.now.regions.log_sectors) memory.now.levels (faultless result)
-        (record { cache = cache.old; medium = D.medium device.old }) (record { cache = cache.new; medium = D.medium device.new }) }
-    ensures refused { IfErr result (λ refusal. (refusal ≡ Io) ⊎ ((refusal ≡ BadTable) ⊎ (refusal ≡ NoMemory))) }
+    ensures pages { IsScan memory.now.mem (work_of memory.now).sealed (places memory.now.levels)
+        (first_data memory.now.regions.log_sectors) range.entry.0.now
+        (option_map (λ to. to.now) range.entry.1) limit count result
+        (record { cache = cache.old; medium = D.medium device.old })
+        (record { cache = cache.new; medium = D.medium device.new }) }
+    ensures scans { ScansRuns (first_data memory.now.regions.log_sectors) range.entry.0.now
+        (places memory.now.levels) (refusal_of result)
+        (record { cache = cache.old; medium = D.medium device.old })
+        (record { cache = cache.new; medium = D.medium device.new }) }
+    ensures reads { ReadsThrough
+        (8 * blocks_in (blocks_of_runs (first_data memory.now.regions.log_sectors) range.entry.0.now
+        (places memory.now.levels))) (first_data memory.now.regions.log_sectors)
+        memory.now.levels (faultless result)
+        (record { cache = cache.old; medium = D.medium device.old })
+        (record { cache = cache.new; medium = D.medium device.new }) }
+    ensures refused { IfErr result
+        (λ refusal. (refusal ≡ Io) ⊎ ((refusal ≡ BadTable) ⊎ (refusal ≡ NoMemory))) }
 {
     let view = view_of(memory);
     view.scan(memory.allocator(), cache, device, range, count, limit)

@@ -35,7 +35,8 @@ fn next_root<A: Allocator + Clone>(
     ensures root { IfOk result (λ root. root ≡ record {
       size = sectors;
       log = regions.now.log_sectors;
-      manifest = contents_for (placed_in (layout_of regions.now) levels.now (records_of levels.now));
+      manifest = contents_for
+          (placed_in (layout_of regions.now) levels.now (records_of levels.now));
     }) }
     ensures refused { IfErr result (λ e. e ≡ Refusal.NoMemory) }
 {
@@ -53,7 +54,8 @@ impl<A: Allocator + Clone> Memory<A> {
         requires log_high { self.now.regions.log_sectors ≤ 2048 }
         requires generation_high { self.now.regions.generation < 2 ^ 63 }
         requires count_high { self.now.count ≤ 2 ^ 63 }
-        ensures regions { IfOk result (λ next. IsRotated (numbered_layout self.now) self.now.count (layout_of next)) }
+        ensures regions { IfOk result
+            (λ next. IsRotated (numbered_layout self.now) self.now.count (layout_of next)) }
         ensures refused { IfErr result (λ e. e ≡ Refusal.NoMemory) }
     {
         let alloc = self.allocator().clone()?;
@@ -65,7 +67,8 @@ impl<A: Allocator + Clone> Memory<A> {
     // Seals memory, and begins an empty one. Where memory is refused, nothing has changed.
     fn seal(&mut self) -> Result<(), Refusal>
         ensures sealed { OnOk result (option_map arc_value self.new.sealed ≡ Some self.old.mem) }
-        ensures begun { OnOk result (self.new ≡ record self.old { mem = []; sealed = self.new.sealed }) }
+        ensures begun { OnOk result
+            (self.new ≡ record self.old { mem = []; sealed = self.new.sealed }) }
         ensures unchanged { OnErr result (self.new ≡ self.old) }
         ensures refused { IfErr result (λ e. e ≡ Refusal.NoMemory) }
     {
@@ -91,12 +94,17 @@ pub(crate) fn rotate<D: Device, A: Allocator + Clone>(
 ) -> Result<(), Refusal>
     requires kept { AreConsistent memory.old }
     requires inside { IsInside (D.medium device.old).size memory.old }
-    ensures serves { (cache : Cached) → Serves (view_of (D.medium device.old) memory.old cache) Rotate (reply_of (λ _. Done) result) (view_of (D.medium device.new) memory.new cache) }
+    ensures serves { (cache : Cached)
+        → Serves (view_of (D.medium device.old) memory.old cache) Rotate
+        (reply_of (λ _. Done) result) (view_of (D.medium device.new) memory.new cache) }
     ensures numbered { OnOk result (memory.new.regions.next_table ≡ memory.old.next_table) }
-    ensures opens { OnOk result (IsRotated (numbered_layout memory.old) (batch_count (state_of memory.old).points) (layout_of memory.new.regions)) }
+    ensures opens { OnOk result
+        (IsRotated (numbered_layout memory.old) (batch_count (state_of memory.old).points)
+        (layout_of memory.new.regions)) }
 
     // Unless a call of the device failed, nothing has changed: all memory is taken before.
-    ensures untouched { IfErr result (λ e. IsTrue (is_no_fault e) → (memory.new ≡ memory.old) × (device.new ≡ device.old)) }
+    ensures untouched { IfErr result
+        (λ e. IsTrue (is_no_fault e) → (memory.new ≡ memory.old) × (device.new ≡ device.old)) }
     ensures calls { AtMost 0 42 2 (D.medium device.old).calls (D.medium device.new).calls }
     ensures kept { AreConsistent memory.new }
     ensures inside { IsInside (D.medium device.new).size memory.new }

@@ -61,7 +61,8 @@ impl<A: Allocator> Memory<A> {
     /// The numbers of the store.
     pub(crate) fn stat(&self) -> Result<Stat, Refusal>
         requires { AreConsistent self.now }
-        ensures { result ≡ stat_answer (record { state = state_of self.now; work = work_of self.now }) }
+        ensures { result ≡ stat_answer
+            (record { state = state_of self.now; work = work_of self.now }) }
     {
         self.check_running()?;
         Ok(Stat {

@@ -23,7 +23,8 @@ fn waiting<'a, A: Allocator>(
     closed: &[LogRecord],
     sealed: &'a Option<Arc<Sealed<A>, A>>,
 ) -> Option<&'a Sealed<A>>
-    ensures { option_map (λ s. s.now) result ≡ (if nat_le 1 (length closed.now) then option_map arc_value sealed.now else None) }
+    ensures { option_map (λ s. s.now) result
+        ≡ (if nat_le 1 (length closed.now) then option_map arc_value sealed.now else None) }
 {
     if closed.is_empty() {
         return None;
@@ -37,7 +38,9 @@ pub(crate) fn take<A: Allocator + Clone>(
     asked: Option<Choice>,
 ) -> Result<Option<TakenJob>, Refusal>
     requires { AreConsistent memory.old }
-    ensures works { (medium : Medium) (cache : Cached) → Works (view_of medium memory.old cache) (Take asked) (reply_of taken_reply result) (view_of medium memory.new cache) }
+    ensures works { (medium : Medium) (cache : Cached)
+        → Works (view_of medium memory.old cache) (Take asked) (reply_of taken_reply result)
+        (view_of medium memory.new cache) }
     ensures kept { AreConsistent memory.new }
     ensures inside { (size : ℕ) → IsInside size memory.old → IsInside size memory.new }
 {
@@ -61,7 +64,9 @@ pub(crate) fn read<D: Device, A: Allocator + Clone>(
 ) -> Result<usize, Refusal>
     requires kept { AreConsistent memory.old }
     requires inside { IsInside (D.medium device.old).size memory.old }
-    ensures works { (cache : Cached) → Works (view_of (D.medium device.old) memory.old cache) (Read job) (reply_of Number result) (view_of (D.medium device.new) memory.new cache) }
+    ensures works { (cache : Cached)
+        → Works (view_of (D.medium device.old) memory.old cache) (Read job) (reply_of Number result)
+        (view_of (D.medium device.new) memory.new cache) }
     ensures kept { AreConsistent memory.new }
     ensures inside { IsInside (D.medium device.new).size memory.new }
 {
@@ -80,7 +85,9 @@ pub(crate) fn write<D: Device, A: Allocator>(
 ) -> Result<u32, Refusal>
     requires kept { AreConsistent memory.old }
     requires inside { IsInside (D.medium device.old).size memory.old }
-    ensures works { (cache : Cached) → Works (view_of (D.medium device.old) memory.old cache) (Write job) (reply_of Number result) (view_of (D.medium device.new) memory.new cache) }
+    ensures works { (cache : Cached)
+        → Works (view_of (D.medium device.old) memory.old cache) (Write job)
+        (reply_of Number result) (view_of (D.medium device.new) memory.new cache) }
     ensures kept { AreConsistent memory.new }
     ensures inside { IsInside (D.medium device.new).size memory.new }
 {
@@ -102,7 +109,10 @@ pub(crate) fn write<D: Device, A: Allocator>(
 /// What a job's merge is given.
 pub(crate) fn input<A: Allocator>(memory: &Memory<A>, job: u64) -> Result<Arc<Input<A>, A>, Refusal>
     requires { AreConsistent memory.now }
-    ensures { (medium : Medium) (cache : Cached) → Works (view_of medium memory.now cache) (Ask job) (reply_of (λ input. Handed (arc_value input)) result) (view_of medium memory.now cache) }
+    ensures { (medium : Medium) (cache : Cached)
+        → Works (view_of medium memory.now cache) (Ask job)
+        (reply_of (λ input. Handed (arc_value input)) result)
+        (view_of medium memory.now cache) }
 {
     memory.check_running()?;
     memory.jobs.input(job)
@@ -115,8 +125,10 @@ pub(crate) fn accept<A: Allocator + Clone>(
     built: &Built<A>,
 ) -> Result<(), Refusal>
     requires { AreConsistent memory.old }
-    ensures works { (medium : Medium) (cache : Cached) → IsInside medium.size memory.old → (IsTrue medium.lasting.tells → length (disk medium).stands ≡ medium.size)
-        → Works (view_of medium memory.old cache) (Accept job (Some built.now)) (reply_of (λ _. Done) result) (view_of medium memory.new cache) }
+    ensures works { (medium : Medium) (cache : Cached) → IsInside medium.size memory.old
+        → (IsTrue medium.lasting.tells → length (disk medium).stands ≡ medium.size)
+        → Works (view_of medium memory.old cache) (Accept job (Some built.now))
+        (reply_of (λ _. Done) result) (view_of medium memory.new cache) }
     ensures kept { AreConsistent memory.new }
     ensures inside { (size : ℕ) → IsInside size memory.old → IsInside size memory.new }
 {
@@ -135,7 +147,9 @@ pub(crate) fn accept<A: Allocator + Clone>(
 /// Gives a job up.
 pub(crate) fn drop<A: Allocator>(memory: &mut Memory<A>, job: u64) -> Result<(), Refusal>
     requires { AreConsistent memory.old }
-    ensures works { (medium : Medium) (cache : Cached) → Works (view_of medium memory.old cache) (Drop job) (reply_of (λ _. Done) result) (view_of medium memory.new cache) }
+    ensures works { (medium : Medium) (cache : Cached)
+        → Works (view_of medium memory.old cache) (Drop job) (reply_of (λ _. Done) result)
+        (view_of medium memory.new cache) }
     ensures kept { AreConsistent memory.new }
     ensures inside { (size : ℕ) → IsInside size memory.old → IsInside size memory.new }
 {

@@ -128,7 +128,8 @@ pub(crate) fn count_up<B: SessionName, R: Wait>(
 /// The counter of a store.
 pub(crate) fn counted_in(store: &mut Store<MemDevice>) -> Result<u64, Refusal>
     requires { IsBacked store.old }
-    ensures counted { IfOk result (λ count. count ≡ counted_in (present_map store.old.state.points)) }
+    ensures counted { IfOk result
+        (λ count. count ≡ counted_in (present_map store.old.state.points)) }
     ensures refused { IfErr result IsSessionRefusal }
 {
     let value = store.get(At::Now, &KEY)?;

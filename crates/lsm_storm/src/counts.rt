@@ -96,7 +96,8 @@ pub(crate) fn rows_in(store: &mut Store<MemDevice>) -> Result<u64, Refusal>
 // How many rows it has from a key on, in at most `pages` pages.
 fn rows_from(store: &mut Store<MemDevice>, from: &[u8], pages: u32) -> Result<u64, Refusal>
     requires { IsBacked store.old }
-    ensures rows { IfOk result (λ rows. rows ≡ length (pairs_in (present_map store.old.state.points) from.now None)) }
+    ensures rows { IfOk result
+        (λ rows. rows ≡ length (pairs_in (present_map store.old.state.points) from.now None)) }
     ensures few { IfOk result (λ rows. rows ≤ 64 * pages) }
     ensures refused { IfErr result IsStormRefusal }
 {

@@ -63,7 +63,8 @@ fn do_all<B: SessionName + Send + Sync, R: Threads + Wait + Sync>(
     crew: &mut [Client<Global, B>],
     tasks: Tasks,
 )
-    ensures { (i : ℕ) (d : Known) → i < length crew.old → DoesTask tasks (slice_index_or crew.old i d) (slice_index_or crew.new i d) }
+    ensures { (i : ℕ) (d : Known) → i < length crew.old
+        → DoesTask tasks (slice_index_or crew.old i d) (slice_index_or crew.new i d) }
 {
     let part = |_: usize, me: &mut Client<Global, B>|
         ensures { DoesTask tasks me.old me.new }

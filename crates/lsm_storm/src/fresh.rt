@@ -19,7 +19,8 @@ const LOG_SECTORS: u16 = 2_048;
 
 // A device in memory with an empty store.
 fn formatted(alloc: Global) -> Result<MemDevice, Refusal>
-    ensures leaves { IfOk result (λ device. Leaves (StandFor 2048 empty_store) (disk (medium_in device))) }
+    ensures leaves { IfOk result
+        (λ device. Leaves (StandFor 2048 empty_store) (disk (medium_in device))) }
     ensures refused { IfErr result IsSessionRefusal }
 {
     let device = MemDevice::new(alloc, SECTORS)?;

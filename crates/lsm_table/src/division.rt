@@ -23,7 +23,9 @@ where
     A: Clone,
     requires few { len ≤ 3200 }
     requires inside { len ≤ length (into_iter_items left.old) }
-    ensures { IfOk result (λ made. AreNextBlocks (map (λ b. b.items) made.items) len (into_iter_items left.old) (into_iter_items left.new)) }
+    ensures { IfOk result
+        (λ made. AreNextBlocks (map (λ b. b.items) made.items) len (into_iter_items left.old)
+        (into_iter_items left.new)) }
 {
     let mut filling = Filling::new(alloc.clone()?)?;
     for _place in 0..len {
@@ -45,7 +47,8 @@ where
     A: Clone,
     requires input { IsInput (into_iter_items left.old) }
     requires ends { EndsTable (into_iter_items left.old) len }
-    ensures { IfOk result (λ image. AreNextBlocks image len (into_iter_items left.old) (into_iter_items left.new)) }
+    ensures { IfOk result
+        (λ image. AreNextBlocks image len (into_iter_items left.old) (into_iter_items left.new)) }
 {
     let blocks = next_blocks(&alloc, left, len)?;
     Ok(Image::new(alloc, blocks, len as u32)?)

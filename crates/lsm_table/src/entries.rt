@@ -46,7 +46,8 @@ impl<'a> Entries<'a> {
     /// items are then its entries.
     pub fn new(block: &'a [u8; 4_096]) -> Entries<'a>
         ensures items { result ≡ entries_in block.now }
-        ensures exact { (entries : List Version) → (result ≡ map Ok entries) ↔ (IsDataBlock entries × (block.now ≡ data_block entries)) }
+        ensures exact { (entries : List Version) → (result ≡ map Ok entries)
+            ↔ (IsDataBlock entries × (block.now ≡ data_block entries)) }
     {
         let count = BigEndian::read_u16(block);
         if count == 0 {

@@ -88,8 +88,10 @@ impl EntryPlace {
 
     /// Where the first entry from the place on is, and the place after it; `None` where none is left or its bytes are invalid.
     pub fn first_entry(&self, block: &[u8; 4_096]) -> Option<(EntrySpan, EntryPlace)>
-        ensures lies { option_map (λ e. spanned e.0 block.now) result ≡ first_version (items_at self.now block.now) }
-        ensures behind { IfSome result (λ e. items_at e.1 block.now ≡ drop 1 (items_at self.now block.now)) }
+        ensures lies { option_map (λ e. spanned e.0 block.now) result
+            ≡ first_version (items_at self.now block.now) }
+        ensures behind { IfSome result
+            (λ e. items_at e.1 block.now ≡ drop 1 (items_at self.now block.now)) }
     {
         if self.left == 0 {
             return None;

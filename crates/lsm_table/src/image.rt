@@ -81,8 +81,10 @@ fn index_of<A: Allocator + Clone>(
     blocks: &[Vec<Entry<A>, A>],
 ) -> Result<(Vec<u8, A>, usize), AllocError>
     requires { length blocks.now ≤ 64 }
-    ensures bytes { IfOk result (λ index. index.0.items ≡ index_blocks (edges_of (map (λ b. b.items) blocks.now))) }
-    ensures len { IfOk result (λ index. index.1 ≡ index_length (edges_of (map (λ b. b.items) blocks.now))) }
+    ensures bytes { IfOk result
+        (λ index. index.0.items ≡ index_blocks (edges_of (map (λ b. b.items) blocks.now))) }
+    ensures len { IfOk result (λ index. index.1
+        ≡ index_length (edges_of (map (λ b. b.items) blocks.now))) }
 {
     let edges = edges_of(alloc, blocks)?;
     let index = edges.encode(alloc.clone()?)?;
@@ -286,7 +288,8 @@ impl<A: Allocator> Image<A> {
     /// takes no memory.
     pub fn block(&self, number: u64, at: usize) -> [u8; 4_096]
         requires { at < extent_size self.now }
-        ensures { result ≡ slice_index_or (extent_in_blocks number (filter_of (keys_of self.now)) self.now) at [] }
+        ensures { result ≡ slice_index_or
+            (extent_in_blocks number (filter_of (keys_of self.now)) self.now) at [] }
     {
         let data = self.data_blocks();
         if at < data {

@@ -29,7 +29,8 @@ impl Layout {
         requires size { size ≤ 2315 }
         ensures laid { self.new ≡ with_entry self.old size }
         ensures used { self.new.used ≤ 4096 }
-        ensures begins { MatchBool result (4096 < self.old.used + size) (self.old.used + size ≤ 4096) }
+        ensures begins { MatchBool result (4096 < self.old.used + size)
+            (self.old.used + size ≤ 4096) }
     {
         let begins = self.used + size > BLOCK;
         if begins {

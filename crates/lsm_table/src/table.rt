@@ -182,7 +182,9 @@ impl<A: Allocator> Table<A> {
         ensures inside { IfSome result (λ block. block < length self.now.edges) }
 
         // Where first key and edges are those of a table, its newest version of the key up to `at` is that of the block.
-        ensures finds { (table : TableBlocks) → IsSorted table → self.now.first ≡ first_key_of table → self.now.edges ≡ edges_of table → newest key.now at (entries_of table) ≡ newest key.now at (at_place table result) }
+        ensures finds { (table : TableBlocks) → IsSorted table → self.now.first ≡ first_key_of table
+            → self.now.edges ≡ edges_of table
+            → newest key.now at (entries_of table) ≡ newest key.now at (at_place table result) }
     {
         if at == 0 || self.first.as_slice().cmp(key).is_gt() {
             return None;

@@ -31,7 +31,8 @@ pub struct Counters<D: Device, A: Allocator, B: SessionName> {
 
 impl<D: Device, A: Allocator, B: SessionName> Counters<D, A, B> {
     pub(crate) fn new(board: Board<D, A>) -> Counters<D, A, B>
-        requires { (board.shared.table_id ≡ B.id.table) × (board.shared.key ≡ B.id.begin) × (B.id.table.words ≡ 3 * B.id.begin.limit + 4) × (B.id.begin.limit ≤ 65536) }
+        requires { (board.shared.table_id ≡ B.id.table) × (board.shared.key ≡ B.id.begin)
+            × (B.id.table.words ≡ 3 * B.id.begin.limit + 4) × (B.id.begin.limit ≤ 65536) }
     {
         Counters {
             board,
@@ -54,8 +55,10 @@ impl<D: Device, A: Allocator, B: SessionName> Counters<D, A, B> {
     // And gives it back.
     fn give_back(&self, keeper: &mut Pass<A>, client: &mut Pass<A>)
         requires { HasBoth B.id (keeper_of keeper.old) (known_of keeper.old) keeper.old }
-        ensures keeper { (keeper.new.table_id ≡ B.id.table) × (keeper.new.me ≡ (view_of (Some (keeper_of keeper.old)) None, [])) }
-        ensures client { (client.new.table_id ≡ B.id.table) × (client.new.me ≡ (view_of None (Some (known_of keeper.old)), [])) }
+        ensures keeper { (keeper.new.table_id ≡ B.id.table)
+            × (keeper.new.me ≡ (view_of (Some (keeper_of keeper.old)) None, [])) }
+        ensures client { (client.new.table_id ≡ B.id.table)
+            × (client.new.me ≡ (view_of None (Some (known_of keeper.old)), [])) }
     {
         *client = self.board.shared.split_seat::<Lend>(keeper);
     }
@@ -65,7 +68,9 @@ impl<D: Device, A: Allocator, B: SessionName> Counters<D, A, B> {
         requires pass { HasBoth B.id (keeper_of keeper.old) (known_of keeper.old) keeper.old }
         requires draft { (keeper_of keeper.old).draft ≡ [] }
         requires count { (length (keeper_of keeper.old).log ≡ count) × (count < B.id.begin.limit) }
-        ensures { HasBoth B.id (keeping (keeper_of keeper.old).begin (keeper_of keeper.old).dealt (keeper_of keeper.old).log (row_of next)) (known_of keeper.old) keeper.new }
+        ensures { HasBoth B.id
+            (keeping (keeper_of keeper.old).begin (keeper_of keeper.old).dealt
+            (keeper_of keeper.old).log (row_of next)) (known_of keeper.old) keeper.new }
     {
         let shared = &self.board.shared;
         let row = 3 * count + 4;
@@ -77,12 +82,17 @@ impl<D: Device, A: Allocator, B: SessionName> Counters<D, A, B> {
     // Makes the history longer by the entry.
     fn publish(&self, keeper: &mut Pass<A>, count: usize, entry: &Entry<A>)
         requires pass { HasBoth B.id (keeper_of keeper.old) (known_of keeper.old) keeper.old }
-        requires draft { (keeper_of keeper.old).draft ≡ row_of (numbers B.id.begin ((keeper_of keeper.old).log ++ entry.now ∷ [])) }
+        requires draft { (keeper_of keeper.old).draft
+            ≡ row_of (numbers B.id.begin ((keeper_of keeper.old).log ++ entry.now ∷ [])) }
         requires count { (length (keeper_of keeper.old).log ≡ count) × (count < B.id.begin.limit) }
         requires client { entry.now.client ≡ (known_of keeper.old).number }
         requires legal { IsLegal B.id.begin ((keeper_of keeper.old).log ++ entry.now ∷ []) }
-        ensures pass { (keeper.new.table_id ≡ B.id.table) × (keeper.new.me ≡ (published (keeper_of keeper.old) (known_of keeper.old) entry.now, [])) }
-        ensures knew { IsPrefix (known_of keeper.old).seen (keeper_of keeper.old).log × (entries_by (known_of keeper.old).number (keeper_of keeper.old).log ≡ (known_of keeper.old).mine) }
+        ensures pass { (keeper.new.table_id ≡ B.id.table)
+            × (keeper.new.me
+            ≡ (published (keeper_of keeper.old) (known_of keeper.old) entry.now, [])) }
+        ensures knew { IsPrefix (known_of keeper.old).seen (keeper_of keeper.old).log
+            × (entries_by (known_of keeper.old).number (keeper_of keeper.old).log
+            ≡ (known_of keeper.old).mine) }
     {
         let count = count as u64;
         self.board
@@ -106,11 +116,17 @@ impl<D: Device, A: Allocator, B: SessionName> Counters<D, A, B> {
         requires next { next ≡ numbers B.id.begin ((keeper_of keeper.old).log ++ entry.now ∷ []) }
         requires by { entry.now.client ≡ (known_of client.old).number }
         requires legal { IsLegal B.id.begin ((keeper_of keeper.old).log ++ entry.now ∷ []) }
-        ensures keeper { IsKeeperPass B.id ((keeper_of keeper.old).log ++ entry.now ∷ []) keeper.new }
+        ensures keeper { IsKeeperPass B.id ((keeper_of keeper.old).log ++ entry.now ∷ [])
+            keeper.new }
         ensures dealt { (keeper_of keeper.new).dealt ≡ (keeper_of keeper.old).dealt }
         ensures client { IsClientPass B.id client.new }
-        ensures known { known_of client.new ≡ known B.id.begin (known_of client.old).number ((keeper_of keeper.old).log ++ entry.now ∷ []) ((known_of client.old).mine ++ entry.now ∷ []) }
-        ensures knew { IsPrefix (known_of client.old).seen (keeper_of keeper.old).log × (entries_by (known_of client.old).number (keeper_of keeper.old).log ≡ (known_of client.old).mine) }
+        ensures known { known_of client.new
+            ≡ known B.id.begin (known_of client.old).number
+            ((keeper_of keeper.old).log ++ entry.now ∷ [])
+            ((known_of client.old).mine ++ entry.now ∷ []) }
+        ensures knew { IsPrefix (known_of client.old).seen (keeper_of keeper.old).log
+            × (entries_by (known_of client.old).number (keeper_of keeper.old).log
+            ≡ (known_of client.old).mine) }
     {
         self.take_in(keeper, client);
         self.put_row(keeper, count, next);
@@ -125,8 +141,12 @@ impl<D: Device, A: Allocator, B: SessionName> Counters<D, A, B> {
         ensures keeper { IsKeeperPass B.id (keeper_of keeper.old).log keeper.new }
         ensures dealt { (keeper_of keeper.new).dealt ≡ (keeper_of keeper.old).dealt }
         ensures client { IsClientPass B.id client.new }
-        ensures known { known_of client.new ≡ known B.id.begin (known_of client.old).number (keeper_of keeper.old).log (known_of client.old).mine }
-        ensures knew { IsPrefix (known_of client.old).seen (keeper_of keeper.old).log × (entries_by (known_of client.old).number (keeper_of keeper.old).log ≡ (known_of client.old).mine) }
+        ensures known { known_of client.new
+            ≡ known B.id.begin (known_of client.old).number (keeper_of keeper.old).log
+            (known_of client.old).mine }
+        ensures knew { IsPrefix (known_of client.old).seen (keeper_of keeper.old).log
+            × (entries_by (known_of client.old).number (keeper_of keeper.old).log
+            ≡ (known_of client.old).mine) }
     {
         self.take_in(keeper, client);
         self.board.shared.load::<Note>(keeper, 0);
@@ -178,7 +198,8 @@ impl<D: Device, A: Allocator, B: SessionName> Counters<D, A, B> {
     /// A pass that tells what the client has seen. It takes no lock and no memory, and waits for nobody.
     pub fn tell(&self, client: &mut Pass<A>) -> Pass<A>
         requires { IsClientPass B.id client.old }
-        ensures client { IsClientPass B.id client.new × (known_of client.new ≡ known_of client.old) }
+        ensures client { IsClientPass B.id client.new
+            × (known_of client.new ≡ known_of client.old) }
         ensures told { IsToldPass B.id (known_of client.old).seen result }
     {
         self.board.shared.split_seat::<Tell>(client)
@@ -201,8 +222,10 @@ impl<D: Device, A: Allocator, B: SessionName> Counters<D, A, B> {
     /// The pass of a new client.
     pub fn deal(&self, keeper: &mut Pass<A>) -> Pass<A>
         requires { IsKeeperPass B.id (keeper_of keeper.old).log keeper.old }
-        ensures keeper { IsKeeperPass B.id (keeper_of keeper.old).log keeper.new × ((keeper_of keeper.new).dealt ≡ (keeper_of keeper.old).dealt + 1) }
-        ensures client { IsClientPass B.id result × (known_of result ≡ known B.id.begin (keeper_of keeper.old).dealt [] []) }
+        ensures keeper { IsKeeperPass B.id (keeper_of keeper.old).log keeper.new
+            × ((keeper_of keeper.new).dealt ≡ (keeper_of keeper.old).dealt + 1) }
+        ensures client { IsClientPass B.id result
+            × (known_of result ≡ known B.id.begin (keeper_of keeper.old).dealt [] []) }
     {
         self.board.shared.split_seat::<Deal>(keeper)
     }
@@ -211,10 +234,13 @@ impl<D: Device, A: Allocator, B: SessionName> Counters<D, A, B> {
     pub fn retire(&self, keeper: &mut Pass<A>, client: Pass<A>)
         requires keeper { IsKeeperPass B.id (keeper_of keeper.old).log keeper.old }
         requires client { IsClientPass B.id client }
-        ensures keeper { (keeper.new.table_id ≡ keeper.old.table_id) × (keeper.new.me ≡ keeper.old.me) }
+        ensures keeper { (keeper.new.table_id ≡ keeper.old.table_id)
+            × (keeper.new.me ≡ keeper.old.me) }
         ensures seen { IsPrefix (known_of client).seen (keeper_of keeper.old).log }
-        ensures calls { entries_by (known_of client).number (keeper_of keeper.old).log ≡ (known_of client).mine }
-        ensures strangers { (x : ℕ) → (keeper_of keeper.old).dealt ≤ x → entries_by x (keeper_of keeper.old).log ≡ [] }
+        ensures calls { entries_by (known_of client).number (keeper_of keeper.old).log
+            ≡ (known_of client).mine }
+        ensures strangers { (x : ℕ) → (keeper_of keeper.old).dealt ≤ x
+            → entries_by x (keeper_of keeper.old).log ≡ [] }
     {
         self.board.shared.join_seat::<Lend>(keeper, client);
         self.board.shared.load::<Compare>(keeper, 0);

@@ -56,7 +56,8 @@ impl<A: Allocator> Entry<A> {
         store: &Store<D, A>,
     ) -> Entry<A>
         requires { told_of reply ≡ Replied (reply_of reply) }
-        ensures { result ≡ called client (call_of call) (reply_in (call_of call) store.now.state (reply_of reply)) (machine_of store.now) }
+        ensures { result ≡ called client (call_of call)
+            (reply_in (call_of call) store.now.state (reply_of reply)) (machine_of store.now) }
     {
         Entry {
             client,
@@ -74,7 +75,8 @@ impl<A: Allocator> Entry<A> {
         store: &Store<D, A>,
     ) -> Entry<A>
         requires { MayBeEntered (asked_of_work work) (told_of reply) }
-        ensures { (piece : Piece) → asked_of_work work ≡ Own (Worked piece) → result ≡ worked client piece (reply_of reply) (machine_of store.now) }
+        ensures { (piece : Piece) → asked_of_work work ≡ Own (Worked piece)
+            → result ≡ worked client piece (reply_of reply) (machine_of store.now) }
     {
         Entry {
             client,
@@ -129,7 +131,8 @@ impl<A: Allocator> Entry<A> {
         store: &Store<D, A>,
     ) -> Entry<A>
         requires { told_of reply ≡ Replied (reply_of reply) }
-        ensures { result ≡ accepted client job number built.now (reply_of reply) (machine_of store.now) }
+        ensures { result ≡ accepted client job number built.now (reply_of reply)
+            (machine_of store.now) }
     {
         Entry {
             client,

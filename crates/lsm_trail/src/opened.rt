@@ -116,7 +116,9 @@ fn open_board<D: Device, A: Allocator + Clone>(
     start: &Start<D, A>,
 ) -> Result<(Board<D, A>, Pass<A>), AllocError>
     requires { (start.now.limit ≤ 65536) × CanPin start.now }
-    ensures { IfOk result (λ r. (r.0.shared.key ≡ start.now) × (r.0.shared.table_id.words ≡ 3 * start.now.limit + 4) × (r.1.table_id ≡ r.0.shared.table_id) × (r.1.me ≡ (first_view start.now, []))) }
+    ensures { IfOk result (λ r. (r.0.shared.key ≡ start.now)
+        × (r.0.shared.table_id.words ≡ 3 * start.now.limit + 4)
+        × (r.1.table_id ≡ r.0.shared.table_id) × (r.1.me ≡ (first_view start.now, []))) }
 {
     let mut words = Vec::from_elem(alloc.clone()?, 0u64, 3 * start.limit as usize + 4)?;
     words[2] = start.store.batch_count();

@@ -34,7 +34,8 @@ pub fn admit<D: Device>(
     ensures upkept { IsUpkept store.old store.new }
     ensures ready { IsMadeReady store.old store.new }
     ensures room { IfOk result (λ done. HasRoomFor batch.now store.new) }
-    ensures refused { IfErr result (λ e. (e ≡ NoSpace) × FindsNoRoom batch.now store.old store.new) }
+    ensures refused { IfErr result
+        (λ e. (e ≡ NoSpace) × FindsNoRoom batch.now store.old store.new) }
 {
     if store.is_stopped() {
         return Ok(());
@@ -136,7 +137,9 @@ fn make_room<D: Device>(
 ) -> Result<(), Refusal>
     ensures upkept { IsUpkept store.old store.new }
     ensures room { IfOk result (λ done. HasRoomFor batch.now store.new) }
-    ensures refused { IfErr result (λ e. (e ≡ NoSpace) × (wants_room batch.now store.new.state ≡ true) × LacksRoom batch.now store.new) }
+    ensures refused { IfErr result
+        (λ e. (e ≡ NoSpace) × (wants_room batch.now store.new.state ≡ true)
+        × LacksRoom batch.now store.new) }
 {
     if Demand::of(store, batch).is_met(store) {
         return Ok(());

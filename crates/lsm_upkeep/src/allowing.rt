@@ -68,7 +68,8 @@ impl Asked {
     }
 
     fn is_same(self, other: Asked) -> bool
-        ensures { result ≡ true → (self.free_blocks ≡ other.free_blocks) × (self.live ≡ other.live) }
+        ensures { result ≡ true → (self.free_blocks ≡ other.free_blocks)
+            × (self.live ≡ other.live) }
     {
         self.generation == other.generation
             && self.free_blocks == other.free_blocks
@@ -81,7 +82,9 @@ impl Grant {
     fn of<D: Device>(store: &Store<D>, asked: Asked, demand: &Demand) -> Option<Grant>
         requires free { asked.free_blocks ≡ free_count store.now.work.area }
         requires live { asked.live ≡ is_live store.now.state }
-        ensures { IfSome result (λ grant. FlushesLeave 100 (free_count store.now.work.area) (is_live store.now.state) demand.now.memory.waiting demand.now.memory.after) }
+        ensures { IfSome result
+            (λ grant. FlushesLeave 100 (free_count store.now.work.area) (is_live store.now.state)
+            demand.now.memory.waiting demand.now.memory.after) }
     {
         let most = demand.with_more(ENTRIES, BYTES);
         if !demand.is_met_up_to(store, most) {
@@ -96,7 +99,9 @@ impl Grant {
 
     // Whether it covers what is demanded of a store that is asked so.
     fn covers(&self, asked: Asked, demand: &Demand) -> bool
-        ensures { result ≡ true → FlushesLeave 100 asked.free_blocks asked.live demand.now.memory.waiting demand.now.memory.after }
+        ensures { result ≡ true
+            → FlushesLeave 100 asked.free_blocks asked.live demand.now.memory.waiting
+            demand.now.memory.after }
     {
         self.asked.is_same(asked) && demand.is_within(self.most, self.waiting)
     }
@@ -110,7 +115,9 @@ impl Allowance {
 
     /// Whether a demand is admitted: it is allowed, or the store is asked. Then more may be allowed.
     pub fn admits<D: Device>(&mut self, store: &Store<D>, demand: &Demand) -> bool
-        ensures { result ≡ true → FlushesLeave 100 (free_count store.now.work.area) (is_live store.now.state) demand.now.memory.waiting demand.now.memory.after }
+        ensures { result ≡ true
+            → FlushesLeave 100 (free_count store.now.work.area) (is_live store.now.state)
+            demand.now.memory.waiting demand.now.memory.after }
     {
         let asked = Asked::of(store);
         if self.covers(asked, demand) {
@@ -121,7 +128,9 @@ impl Allowance {
     }
 
     fn covers(&self, asked: Asked, demand: &Demand) -> bool
-        ensures { result ≡ true → FlushesLeave 100 asked.free_blocks asked.live demand.now.memory.waiting demand.now.memory.after }
+        ensures { result ≡ true
+            → FlushesLeave 100 asked.free_blocks asked.live demand.now.memory.waiting
+            demand.now.memory.after }
     {
         match &self.granted {
             Some(grant) => grant.covers(asked, demand),

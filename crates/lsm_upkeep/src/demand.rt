@@ -34,7 +34,8 @@ impl Demand {
         ensures before { store.now.work.memory ≡ [] → result.memory.before ≡ no_size }
         ensures after { store.now.work.memory ≡ [] → GrowsBy batch.now no_size result.memory.after }
         ensures waiting { store.now.work.sealed ≡ [] → result.memory.waiting ≡ no_size }
-        ensures covers { (number : ℕ) → Covers (with_batch number batch.now store.now.work.memory) result.memory.after }
+        ensures covers { (number : ℕ)
+            → Covers (with_batch number batch.now store.now.work.memory) result.memory.after }
         ensures sealed { Covers store.now.work.sealed result.memory.waiting }
     {
         let before = store.memtable_size();
@@ -60,8 +61,13 @@ impl Demand {
 
     /// Whether it is admitted.
     pub(crate) fn is_met<D: Device>(&self, store: &Store<D>) -> bool
-        ensures crowded { result ≡ false → self.now.memory.before.entries ≡ 0 → self.now.memory.waiting ≡ no_size → self.now.puts ≡ true → IsCrowdedIn store.now.work (blocks_for self.now.memory.after.bytes self.now.memory.after.entries) }
-        ensures room { result ≡ true → FlushesLeave 100 (free_count store.now.work.area) (is_live store.now.state) self.now.memory.waiting self.now.memory.after }
+        ensures crowded { result ≡ false → self.now.memory.before.entries ≡ 0
+            → self.now.memory.waiting ≡ no_size → self.now.puts ≡ true
+            → IsCrowdedIn store.now.work
+            (blocks_for self.now.memory.after.bytes self.now.memory.after.entries) }
+        ensures room { result ≡ true
+            → FlushesLeave 100 (free_count store.now.work.area) (is_live store.now.state)
+            self.now.memory.waiting self.now.memory.after }
     {
         standing(store).admits(self.memory, self.puts)
     }
@@ -83,7 +89,9 @@ impl Demand {
 
     /// Whether it is admitted, and so is whatever else leaves memory within this size.
     pub(crate) fn is_met_up_to<D: Device>(&self, store: &Store<D>, most: MemSize) -> bool
-        ensures { result ≡ true → FlushesLeave 100 (free_count store.now.work.area) (is_live store.now.state) self.now.memory.waiting most }
+        ensures { result ≡ true
+            → FlushesLeave 100 (free_count store.now.work.area) (is_live store.now.state)
+            self.now.memory.waiting most }
     {
         standing(store).admits_up_to(self.memory, most)
     }
@@ -97,7 +105,8 @@ impl Demand {
 
     /// Whether it leaves memory within this size, and no more waits for a flush than so much.
     pub(crate) fn is_within(&self, most: MemSize, waiting: MemSize) -> bool
-        ensures { result ≡ true → IsWithin self.now.memory.after most × IsWithin self.now.memory.waiting waiting }
+        ensures { result ≡ true → IsWithin self.now.memory.after most
+            × IsWithin self.now.memory.waiting waiting }
     {
         is_within(self.memory.after, most) && is_within(self.memory.waiting, waiting)
     }
@@ -111,8 +120,13 @@ impl Demand {
     /// spare.
     pub(crate) fn is_refused<D: Device>(&self, store: &Store<D>) -> bool
         ensures puts { result ≡ true → self.now.puts ≡ true }
-        ensures crowded { result ≡ true → self.now.memory.before.entries ≡ 0 → self.now.memory.waiting ≡ no_size → IsCrowdedIn store.now.work (blocks_for self.now.memory.after.bytes self.now.memory.after.entries) }
-        ensures room { result ≡ false → self.now.puts ≡ true → FlushesLeave 100 (free_count store.now.work.area) (is_live store.now.state) self.now.memory.waiting self.now.memory.after }
+        ensures crowded { result ≡ true → self.now.memory.before.entries ≡ 0
+            → self.now.memory.waiting ≡ no_size
+            → IsCrowdedIn store.now.work
+            (blocks_for self.now.memory.after.bytes self.now.memory.after.entries) }
+        ensures room { result ≡ false → self.now.puts ≡ true
+            → FlushesLeave 100 (free_count store.now.work.area) (is_live store.now.state)
+            self.now.memory.waiting self.now.memory.after }
     {
         self.puts && !(self.is_met(store) && Demand::has_spare(store))
     }

@@ -60,7 +60,8 @@ fn finish<D: Device>(
     taken: TakenJob,
     divisions: Vec<Key>,
 ) -> Result<(), Refusal>
-    ensures { MatchResult result (λ _. IsFinished taken.number taken.level store.old store.new) (λ _. IsStuck taken.number taken.level store.old store.new) }
+    ensures { MatchResult result (λ _. IsFinished taken.number taken.level store.old store.new)
+        (λ _. IsStuck taken.number taken.level store.old store.new) }
 {
     read(store, taken)?;
     merge(alloc, store, taken.number, divisions)?;
@@ -70,7 +71,8 @@ fn finish<D: Device>(
 
 // Reads what a merge takes in. A flush has its input at once.
 fn read<D: Device>(store: &mut Store<D>, taken: TakenJob) -> Result<(), Refusal>
-    ensures { MatchResult result (λ _. IsReadWhole taken.number taken.level store.old store.new) (λ _. IsUnread taken.number taken.level store.old store.new) }
+    ensures { MatchResult result (λ _. IsReadWhole taken.number taken.level store.old store.new)
+        (λ _. IsUnread taken.number taken.level store.old store.new) }
 {
     match taken.level {
         Some(_) => read_tables(store, taken.number),
@@ -79,7 +81,8 @@ fn read<D: Device>(store: &mut Store<D>, taken: TakenJob) -> Result<(), Refusal>
 }
 
 fn read_tables<D: Device>(store: &mut Store<D>, job: u64) -> Result<(), Refusal>
-    ensures { MatchResult result (λ _. GoesThrough (Read job) store.old store.new) (λ _. DoesNotGoThrough (Read job) store.old store.new) }
+    ensures { MatchResult result (λ _. GoesThrough (Read job) store.old store.new)
+        (λ _. DoesNotGoThrough (Read job) store.old store.new) }
 {
     let mut left = store.job_read(job)?;
     while left > 0 {
@@ -99,7 +102,8 @@ pub(crate) fn merge<D: Device>(
     job: u64,
     divisions: Vec<Key>,
 ) -> Result<(), Refusal>
-    ensures { MatchResult result (λ _. IsOffered job Done store.old store.new) (λ _. IsUnmerged job store.old store.new) }
+    ensures { MatchResult result (λ _. IsOffered job Done store.old store.new)
+        (λ _. IsUnmerged job store.old store.new) }
 {
     let input = store.job_input(job)?;
     let built = build_here(alloc, input, divisions)?;
@@ -107,7 +111,8 @@ pub(crate) fn merge<D: Device>(
 }
 
 fn write<D: Device>(store: &mut Store<D>, job: u64) -> Result<(), Refusal>
-    ensures { MatchResult result (λ _. GoesThrough (Write job) store.old store.new) (λ _. DoesNotGoThrough (Write job) store.old store.new) }
+    ensures { MatchResult result (λ _. GoesThrough (Write job) store.old store.new)
+        (λ _. DoesNotGoThrough (Write job) store.old store.new) }
 {
     let mut left = store.job_write(job)?;
     while left > 0 {

@@ -37,7 +37,8 @@ fn ease<D: Device>(alloc: Global, store: &mut Store<D>, policy: &Policy)
 
 // Whether a store runs, and room is scarce in it.
 fn is_scarce<D: Device>(policy: &Policy, store: &Store<D>) -> bool
-    ensures { result ≡ (not (is_some store.now.state.stopped) && is_scarce policy.now.most_tables store.now) }
+    ensures { result
+        ≡ (not (is_some store.now.state.stopped) && is_scarce policy.now.most_tables store.now) }
 {
     match store.stat() {
         Ok(stat) => policy.is_scarce(store.levels(), stat.free_blocks),

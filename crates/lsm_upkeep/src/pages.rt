@@ -59,7 +59,8 @@ impl Walk {
         alloc: Global,
         store: &mut Store<D>,
     ) -> Result<Option<Page>, Refusal>
-        ensures { MatchResult result (λ page. Walks self.old page self.new store.old store.new) (λ e. IsHeld self.old e self.new store.old store.new) }
+        ensures { MatchResult result (λ page. Walks self.old page self.new store.old store.new)
+            (λ e. IsHeld self.old e self.new store.old store.new) }
     {
         let Some(from) = &self.from else {
             return Ok(None);

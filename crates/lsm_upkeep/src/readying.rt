@@ -73,7 +73,8 @@ impl AdmitState {
         ensures refused { result ≡ Refuse → wants_room batch.now store.now.state ≡ true }
         ensures crowded { result ≡ Refuse → LacksRoom batch.now store.now }
         ensures room { result ≡ Commit → HasRoomFor batch.now store.now }
-        ensures at_once { is_before_room self.old.done ≡ true → result ≡ Commit → HasRoom batch.now store.now }
+        ensures at_once { is_before_room self.old.done ≡ true → result ≡ Commit
+            → HasRoom batch.now store.now }
     {
         if store.is_stopped() {
             return Verdict::Commit;
@@ -112,7 +113,8 @@ impl AdmitState {
     fn with_log<D: Device>(&mut self, store: &Store<D>, batch: &Batch) -> Verdict
         ensures refused { result ≡ Refuse → ⊥ }
         ensures room { result ≡ Commit → HasRoomFor batch.now store.now }
-        ensures at_once { is_before_room self.old.done ≡ true → result ≡ Commit → HasRoom batch.now store.now }
+        ensures at_once { is_before_room self.old.done ≡ true → result ≡ Commit
+            → HasRoom batch.now store.now }
     {
         let demand = Demand::of(store, batch);
         let has_log = demand.has_log(store);

@@ -24,7 +24,8 @@ pub fn write<D: Device>(
     guards: Option<&[Guard]>,
     batch: &Batch,
 ) -> Result<u64, Refusal>
-    ensures { Writes (option_map (λ g. g.now) guards.entry) batch.now store.old (reply_of Number result) store.new }
+    ensures { Writes (option_map (λ g. g.now) guards.entry) batch.now store.old
+        (reply_of Number result) store.new }
 {
     match admit(alloc, store, upkeep, batch) {
         Ok(()) => without_log_full(commit(store, guards, batch)),
@@ -37,7 +38,8 @@ fn commit<D: Device>(
     guards: Option<&[Guard]>,
     batch: &Batch,
 ) -> Result<u64, Refusal>
-    ensures { IsServed (commit_of (option_map (λ g. g.now) guards.entry) batch.now) store.old (reply_of Number result) store.new }
+    ensures { IsServed (commit_of (option_map (λ g. g.now) guards.entry) batch.now) store.old
+        (reply_of Number result) store.new }
 {
     match guards {
         Some(guards) => store.commit_if(guards, batch),

@@ -59,8 +59,12 @@ pub fn answer_request<
     output: &mut O,
     progress: &mut P,
 ) -> Result<Answer, Fault>
-    ensures comes { IfOk result (Comes request.entry (I.remaining input.old) (O.contents output.old) (O.contents output.new)) }
-    ensures faults { IfErr result (λ e. FaultsWith request.entry (I.remaining input.old) (reason_of e) (O.contents output.old) (O.contents output.new)) }
+    ensures comes { IfOk result
+        (Comes request.entry (I.remaining input.old) (O.contents output.old)
+        (O.contents output.new)) }
+    ensures faults { IfErr result
+        (λ e. FaultsWith request.entry (I.remaining input.old) (reason_of e) (O.contents output.old)
+        (O.contents output.new)) }
 {
     match request {
         Request::Format { file, geometry } => format(rt, file, geometry),
@@ -95,7 +99,8 @@ fn compact<R: Files<File = File> + AllocGlobal, P: Progress>(
     progress: &mut P,
 ) -> Result<Answer, Fault>
     ensures gives { IfOk result (OfOpened HasCompacted) }
-    ensures refused { IfErr result (λ e. IsRefusalBy (IsRefusedOpened RefusesToCompact) (reason_of e)) }
+    ensures refused { IfErr result
+        (λ e. IsRefusalBy (IsRefusedOpened RefusesToCompact) (reason_of e)) }
 {
     let mut store = open(rt, file)?;
     let done = keep_and_compact(rt.alloc(), &mut store, progress);
@@ -108,8 +113,10 @@ fn closed(
     store: Store<FileDevice>,
     done: Result<Output, Refusal>,
 ) -> Result<Answer, Fault>
-    ensures answer { IfOk result (λ answer. (done ≡ Ok answer.output) × Hands answer.file store.device) }
-    ensures refused { IfErr result (λ e. (reason : Refusal) × (done ≡ Err reason) × (reason_of e ≡ refusal reason)) }
+    ensures answer { IfOk result
+        (λ answer. (done ≡ Ok answer.output) × Hands answer.file store.device) }
+    ensures refused { IfErr result
+        (λ e. (reason : Refusal) × (done ≡ Err reason) × (reason_of e ≡ refusal reason)) }
 {
     match done {
         Ok(output) => Ok(Answer::of_store(output, store)),
@@ -142,7 +149,8 @@ fn dump<R: Files<File = File> + AllocGlobal, O: Write>(
     output: &mut O,
 ) -> Result<Answer, Fault>
     ensures answer { IfOk result (OfDumped (O.contents output.old) (O.contents output.new)) }
-    ensures fault { IfErr result (λ e. TellsDumped (reason_of e) (O.contents output.old) (O.contents output.new)) }
+    ensures fault { IfErr result
+        (λ e. TellsDumped (reason_of e) (O.contents output.old) (O.contents output.new)) }
 {
     let mut store = open(rt, file)?;
     match dump_rows(rt.alloc(), &mut store, output) {
@@ -158,8 +166,12 @@ fn load<R: Files<File = File> + AllocGlobal, I: Read, O: Write, P: Progress>(
     output: &mut O,
     progress: &mut P,
 ) -> Result<Answer, Fault>
-    ensures answer { IfOk result (λ answer. OfOpened (HasLoaded (I.remaining input.old)) answer × (O.contents output.new ≡ O.contents output.old)) }
-    ensures fault { IfErr result (λ e. TellsLoaded (I.remaining input.old) (reason_of e) (O.contents output.old) (O.contents output.new)) }
+    ensures answer { IfOk result
+        (λ answer. OfOpened (HasLoaded (I.remaining input.old)) answer
+        × (O.contents output.new ≡ O.contents output.old)) }
+    ensures fault { IfErr result
+        (λ e. TellsLoaded (I.remaining input.old) (reason_of e) (O.contents output.old)
+        (O.contents output.new)) }
 {
     let mut store = open(rt, file)?;
     let mut lines = buffered(rt.alloc(), input)?;
@@ -176,10 +188,13 @@ fn loaded_so<O: Write>(
     loaded: Loaded,
     output: &mut O,
 ) -> Result<Answer, Fault>
-    ensures answer { IfOk result (λ answer. (loaded.ended ≡ Ok tt) × (answer.output ≡ LoadedRows loaded.rows) × Hands answer.file store.device
+    ensures answer { IfOk result
+        (λ answer. (loaded.ended ≡ Ok tt) × (answer.output ≡ LoadedRows loaded.rows)
+        × Hands answer.file store.device
         × (O.contents output.new ≡ O.contents output.old)) }
     ensures fault { IfErr result (λ e. (fault : Fault) × (loaded.ended ≡ Err fault)
-        × TellsNumber loaded.rows (reason_of fault) (reason_of e) (O.contents output.old) (O.contents output.new)) }
+        × TellsNumber loaded.rows (reason_of fault) (reason_of e) (O.contents output.old)
+        (O.contents output.new)) }
 {
     let Loaded { rows, ended } = loaded;
     match ended {
@@ -198,8 +213,12 @@ fn serve<R: Files<File = File> + AllocGlobal, I: Read, O: Write>(
     input: &mut I,
     output: &mut O,
 ) -> Result<Answer, Fault>
-    ensures answer { IfOk result (OfOpened (HasServed (I.remaining input.old) (O.contents output.old) (O.contents output.new))) }
-    ensures fault { IfErr result (λ e. TellsServed (I.remaining input.old) (reason_of e) (O.contents output.old) (O.contents output.new)) }
+    ensures answer { IfOk result
+        (OfOpened (HasServed (I.remaining input.old) (O.contents output.old)
+        (O.contents output.new))) }
+    ensures fault { IfErr result
+        (λ e. TellsServed (I.remaining input.old) (reason_of e) (O.contents output.old)
+        (O.contents output.new)) }
 {
     let mut store = open(rt, file)?;
     let mut lines = buffered(rt.alloc(), input)?;
@@ -211,8 +230,11 @@ fn serve<R: Files<File = File> + AllocGlobal, I: Read, O: Write>(
 
 // The answer to whoever had all lines answered, if the store wasn't stopped meanwhile.
 fn served(alloc: Global, store: Store<FileDevice>) -> Result<Answer, Fault>
-    ensures answer { IfOk result (λ answer. (answer.output ≡ Served) × Hands answer.file store.device × (is_some store.state.stopped ≡ false)) }
-    ensures fault { IfErr result (λ e. (reason_of e ≡ refusal Stopped) × (is_some store.state.stopped ≡ true)) }
+    ensures answer { IfOk result
+        (λ answer. (answer.output ≡ Served) × Hands answer.file store.device
+        × (is_some store.state.stopped ≡ false)) }
+    ensures fault { IfErr result
+        (λ e. (reason_of e ≡ refusal Stopped) × (is_some store.state.stopped ≡ true)) }
 {
     match store.stat() {
         Ok(_) => Ok(Answer::of_store(Output::Served, store)),
@@ -227,7 +249,8 @@ fn keep_and_load<D: Device, I: BufRead, P: Progress>(
     lines: &mut I,
     progress: &mut P,
 ) -> Result<Loaded, Refusal>
-    ensures loads { IfOk result (λ loaded. KeepsAndLoads (I.remaining lines.old) loaded store.old store.new) }
+    ensures loads { IfOk result
+        (λ loaded. KeepsAndLoads (I.remaining lines.old) loaded store.old store.new) }
     ensures refused { IfErr result (RefusesToLoad (I.remaining lines.old) store.old) }
 {
     keep(alloc, store);
@@ -236,7 +259,8 @@ fn keep_and_load<D: Device, I: BufRead, P: Progress>(
 
 // Prints how many rows were loaded before the fault.
 fn told_first<O: Write>(rows: u64, fault: Fault, output: &mut O) -> Fault
-    ensures { TellsNumber rows (reason_of fault) (reason_of result) (O.contents output.old) (O.contents output.new) }
+    ensures { TellsNumber rows (reason_of fault) (reason_of result) (O.contents output.old)
+        (O.contents output.new) }
 {
     match writeln!(output, "loaded {rows}") {
         Ok(()) => fault,
@@ -250,7 +274,8 @@ fn format<R: Files<File = File> + AllocGlobal>(
     geometry: Geometry,
 ) -> Result<Answer, Fault>
     ensures gives { IfOk result (HasFormatted geometry.sectors geometry.log_sectors) }
-    ensures refused { IfErr result (λ e. IsRefusalBy (λ r. (r ≡ NoMemory) ⊎ (r ≡ Io)) (reason_of e)) }
+    ensures refused { IfErr result
+        (λ e. IsRefusalBy (λ r. (r ≡ NoMemory) ⊎ (r ≡ Io)) (reason_of e)) }
 {
     let (device, replacement) = create_beside(rt, file, geometry.sectors())?;
     match lsm_open::format(rt.alloc(), device, geometry.log_sectors()) {
@@ -276,8 +301,12 @@ fn commit<R: Files<File = File> + AllocGlobal>(
     guards: Option<&[Guard]>,
     batch: &Batch,
 ) -> Result<Answer, Fault>
-    ensures gives { IfOk result (OfOpened (HasCommitted (option_map (λ g. g.now) guards.entry) batch.now)) }
-    ensures refused { IfErr result (λ e. IsRefusalBy (IsRefusedOpened (RefusesToCommit (option_map (λ g. g.now) guards.entry) batch.now)) (reason_of e)) }
+    ensures gives { IfOk result
+        (OfOpened (HasCommitted (option_map (λ g. g.now) guards.entry) batch.now)) }
+    ensures refused { IfErr result
+        (λ e. IsRefusalBy
+        (IsRefusedOpened (RefusesToCommit (option_map (λ g. g.now) guards.entry) batch.now))
+        (reason_of e)) }
 {
     let mut store = open(rt, file)?;
     let done = committing::commit(rt.alloc(), &mut store, guards, batch);
@@ -286,7 +315,8 @@ fn commit<R: Files<File = File> + AllocGlobal>(
 
 fn get<R: Files<File = File> + AllocGlobal>(rt: &R, file: &str, key: &[u8]) -> Result<Answer, Fault>
     ensures gives { IfOk result (OfOpened (HasFound key.now)) }
-    ensures refused { IfErr result (λ e. IsRefusalBy (IsRefusedOpened (RefusesToTell (Get Now key.now))) (reason_of e)) }
+    ensures refused { IfErr result
+        (λ e. IsRefusalBy (IsRefusedOpened (RefusesToTell (Get Now key.now))) (reason_of e)) }
 {
     let mut store = open(rt, file)?;
     let done = find(rt.alloc(), &mut store, key);
@@ -309,7 +339,9 @@ fn replay<R: Files<File = File> + AllocGlobal + Threads + Sync>(
     file: &str,
     script: Vec<Line>,
 ) -> Result<Answer, Fault>
-    ensures gives { IfOk result (OfOpened (HasReplies (map asked_of (steps_after [] script.items)) (told_after [] script.items))) }
+    ensures gives { IfOk result
+        (OfOpened (HasReplies (map asked_of (steps_after [] script.items))
+        (told_after [] script.items))) }
     ensures refused { IfErr result (λ e. IsRefusalBy IsOpeningRefusal (reason_of e)) }
 {
     let steps = steps_of(rt.alloc(), script)?;
@@ -325,7 +357,9 @@ fn scan<R: Files<File = File> + AllocGlobal>(
     limit: u64,
 ) -> Result<Answer, Fault>
     ensures gives { IfOk result (OfOpened (HasRows from.now limit)) }
-    ensures refused { IfErr result (λ e. IsRefusalBy (IsRefusedOpened (RefusesToTell (Scan Now from.now None limit))) (reason_of e)) }
+    ensures refused { IfErr result
+        (λ e. IsRefusalBy (IsRefusedOpened (RefusesToTell (Scan Now from.now None limit)))
+        (reason_of e)) }
 {
     let mut store = open(rt, file)?;
     let done = list(rt.alloc(), &mut store, from, limit);
@@ -351,7 +385,8 @@ fn list<D: Device>(
 // Tells the numbers of a store.
 fn numbers<D: Device>(alloc: Global, store: &Store<D>) -> Result<Output, Refusal>
     ensures gives { IfOk result (HasNumbers store.now store.now) }
-    ensures refused { IfErr result (λ e. (e ≡ NoMemory) ⊎ (stat_answer (machine_of store.now) ≡ Err e)) }
+    ensures refused { IfErr result
+        (λ e. (e ≡ NoMemory) ⊎ (stat_answer (machine_of store.now) ≡ Err e)) }
 {
     Ok(Output::Lines(numbers_line(alloc, store)?))
 }
@@ -359,7 +394,8 @@ fn numbers<D: Device>(alloc: Global, store: &Store<D>) -> Result<Output, Refusal
 // The numbers of a store, in a line.
 fn numbers_line<D: Device>(alloc: Global, store: &Store<D>) -> Result<String, Refusal>
     ensures gives { IfOk result (λ line. IsStatLine store.now (string_bytes line)) }
-    ensures refused { IfErr result (λ e. (e ≡ NoMemory) ⊎ (stat_answer (machine_of store.now) ≡ Err e)) }
+    ensures refused { IfErr result
+        (λ e. (e ≡ NoMemory) ⊎ (stat_answer (machine_of store.now) ≡ Err e)) }
 {
     let stat = store.stat()?;
     Ok(stat_text(alloc, &stat)?)
@@ -417,7 +453,9 @@ fn lives<R: Threads + Sync>(
     geometry: Geometry,
     script: Vec<Line>,
 ) -> Result<Answer, Refusal>
-    ensures gives { IfOk result (λ answer. HasLives geometry.sectors geometry.log_sectors (lives_said script.items) (told_lives script.items) answer.output) }
+    ensures gives { IfOk result
+        (λ answer. HasLives geometry.sectors geometry.log_sectors (lives_said script.items)
+        (told_lives script.items) answer.output) }
     ensures refused { IfErr result (λ e. e ≡ NoMemory) }
 {
     let output = runs::lives(rt, alloc, geometry, script)?;

@@ -22,8 +22,10 @@ pub fn commit<D: Device>(
     guards: Option<&[Guard]>,
     batch: &Batch,
 ) -> Result<Output, Refusal>
-    ensures gives { IfOk result (HasCommitted (option_map (λ g. g.now) guards.entry) batch.now store.old store.new) }
-    ensures refused { IfErr result (RefusesToCommit (option_map (λ g. g.now) guards.entry) batch.now store.old) }
+    ensures gives { IfOk result
+        (HasCommitted (option_map (λ g. g.now) guards.entry) batch.now store.old store.new) }
+    ensures refused { IfErr result
+        (RefusesToCommit (option_map (λ g. g.now) guards.entry) batch.now store.old) }
 {
     keep(alloc, store);
     let number = write(alloc, store, &mut Upkeep::at_once(), guards, batch)?;

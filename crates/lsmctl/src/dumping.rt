@@ -19,8 +19,10 @@ pub fn dump_rows<D: Device, O: Write>(
     store: &mut Store<D>,
     output: &mut O,
 ) -> Result<(), Fault>
-    ensures { MatchResult result (λ _. Dumps (O.contents output.old) (O.contents output.new) store.old store.new)
-        (λ e. StopsDumping (reason_of e) store.old (O.contents output.old) (O.contents output.new)) }
+    ensures { MatchResult result
+        (λ _. Dumps (O.contents output.old) (O.contents output.new) store.old store.new)
+        (λ e. StopsDumping (reason_of e) store.old (O.contents output.old)
+        (O.contents output.new)) }
 {
     let mut walk = Walk::new(alloc, At::Now, &[])?;
     for _ in 0..u64::MAX {
@@ -38,8 +40,11 @@ fn dump_page<D: Device, O: Write>(
     store: &mut Store<D>,
     output: &mut O,
 ) -> Result<bool, Fault>
-    ensures { MatchResult result (λ more. DumpsPage more walk.old walk.new store.old store.new (O.contents output.old) (O.contents output.new))
-        (λ e. StopsAtPage (reason_of e) walk.old store.old (O.contents output.old) (O.contents output.new)) }
+    ensures { MatchResult result
+        (λ more. DumpsPage more walk.old walk.new store.old store.new (O.contents output.old)
+        (O.contents output.new))
+        (λ e. StopsAtPage (reason_of e) walk.old store.old (O.contents output.old)
+        (O.contents output.new)) }
 {
     match walk.next_page(alloc, store)? {
         Some(page) => {
@@ -51,7 +56,9 @@ fn dump_page<D: Device, O: Write>(
 }
 
 fn print_page<O: Write>(alloc: Global, page: &Page, output: &mut O) -> Result<(), Fault>
-    ensures { MatchResult result (λ _. Appends (O.contents output.old) (O.contents output.new) (rows_lines page.now)) (λ e. IsUnprinted (reason_of e) (O.contents output.old) (O.contents output.new)) }
+    ensures { MatchResult result
+        (λ _. Appends (O.contents output.old) (O.contents output.new) (rows_lines page.now))
+        (λ e. IsUnprinted (reason_of e) (O.contents output.old) (O.contents output.new)) }
 {
     let mut text = String::new(alloc);
     push_row_lines(alloc, &mut text, page)?;

@@ -78,8 +78,10 @@ fn print_or_tell<O: Write, E: Write>(
     errors: &mut E,
     answer: &Answer,
 ) -> io::Result<()>
-    ensures printed { OnOk result (Appends (O.contents output.old) (O.contents output.new) (lines_of answer.now)) }
-    ensures lack { OnOk result (TellsLack answer.now.output (E.contents errors.old) (E.contents errors.new)) }
+    ensures printed { OnOk result
+        (Appends (O.contents output.old) (O.contents output.new) (lines_of answer.now)) }
+    ensures lack { OnOk result
+        (TellsLack answer.now.output (E.contents errors.old) (E.contents errors.new)) }
 {
     match print(output, answer) {
         Ok(()) => tell_lack_in(errors, &answer.output),
@@ -101,7 +103,8 @@ fn tell_lack_in<E: Write>(errors: &mut E, output: &Output) -> io::Result<()>
 }
 
 fn tell_lack<E: Write>(errors: &mut E, lack: &Lack) -> io::Result<()>
-    ensures { OnOk result (Appends (E.contents errors.old) (E.contents errors.new) (lack_line lack.now)) }
+    ensures { OnOk result
+        (Appends (E.contents errors.old) (E.contents errors.new) (lack_line lack.now)) }
 {
     match lack {
         Lack::FlushWants(_) => tell_want(errors, lack),
@@ -114,7 +117,8 @@ fn tell_lack<E: Write>(errors: &mut E, lack: &Lack) -> io::Result<()>
 
 // Tells that blocks are lacking, and what helps then.
 fn tell_want<E: Write>(errors: &mut E, lack: &Lack) -> io::Result<()>
-    ensures { OnOk result (Appends (E.contents errors.old) (E.contents errors.new) (told_lack lack.now wanting)) }
+    ensures { OnOk result
+        (Appends (E.contents errors.old) (E.contents errors.new) (told_lack lack.now wanting)) }
 {
     writeln!(
         errors,
@@ -125,7 +129,8 @@ fn tell_want<E: Write>(errors: &mut E, lack: &Lack) -> io::Result<()>
 }
 
 fn tell_other<E: Write>(errors: &mut E, lack: &Lack) -> io::Result<()>
-    ensures { OnOk result (Appends (E.contents errors.old) (E.contents errors.new) (told_lack lack.now [])) }
+    ensures { OnOk result
+        (Appends (E.contents errors.old) (E.contents errors.new) (told_lack lack.now [])) }
 {
     writeln!(errors, "error: not compacted to the end: {lack}")?;
     errors.flush()?;
@@ -140,7 +145,8 @@ fn tell<E: Write>(errors: &mut E, error: &io::Error) {
 }
 
 fn print<O: Write>(output: &mut O, answer: &Answer) -> io::Result<()>
-    ensures { OnOk result (Appends (O.contents output.old) (O.contents output.new) (lines_of answer.now)) }
+    ensures { OnOk result
+        (Appends (O.contents output.old) (O.contents output.new) (lines_of answer.now)) }
 {
     write!(output, "{answer}")?;
     output.flush()?;

@@ -23,7 +23,9 @@ pub(crate) fn explore<R: Threads + Sync, P: Progress>(
     script: Vec<Line>,
     progress: &mut P,
 ) -> Result<Answer, Refusal>
-    ensures gives { IfOk result (λ answer. HasExplored geometry.sectors geometry.log_sectors (map asked_of (steps_after [] script.items)) answer.output) }
+    ensures gives { IfOk result
+        (λ answer. HasExplored geometry.sectors geometry.log_sectors
+        (map asked_of (steps_after [] script.items)) answer.output) }
     ensures refused { IfErr result (λ e. e ≡ NoMemory) }
 {
     let steps = steps_of(alloc, script)?;

@@ -42,7 +42,8 @@ pub fn load_rows<D: Device, I: BufRead, P: Progress>(
     input: &mut I,
     progress: &mut P,
 ) -> Result<Loaded, Refusal>
-    ensures loads { IfOk result (λ loaded. IsLoaded (I.remaining input.old) loaded store.old store.new) }
+    ensures loads { IfOk result
+        (λ loaded. IsLoaded (I.remaining input.old) loaded store.old store.new) }
     ensures refused { IfErr result (RefusesLastSync (I.remaining input.old) store.old) }
 {
     let mut loading = Loading {
@@ -110,7 +111,9 @@ fn read_rows<D: Device, I: BufRead, P: Progress>(
 
 // The row of a line, after `before` others.
 fn row_in(alloc: Global, before: u64, line: &[u8]) -> Result<Op, Fault>
-    ensures { MatchResult result (λ row. row_said line.now ≡ Some row) (λ e. ((reason_of e ≡ mistake) × (row_said line.now ≡ None)) ⊎ (reason_of e ≡ refusal NoMemory)) }
+    ensures { MatchResult result (λ row. row_said line.now ≡ Some row)
+        (λ e. ((reason_of e ≡ mistake) × (row_said line.now ≡ None))
+        ⊎ (reason_of e ≡ refusal NoMemory)) }
 {
     match read_row(alloc, line) {
         Ok(row) => Ok(row),
@@ -131,7 +134,8 @@ fn take<D: Device>(
     row: Op,
 ) -> Result<(), Refusal>
     requires { loading.old.read < 18446744073709551615 }
-    ensures { MatchResult result (λ _. Takes row loading.old store.old loading.new store.new) (λ e. TakesNot loading.old store.old e loading.new store.new) }
+    ensures { MatchResult result (λ _. Takes row loading.old store.old loading.new store.new)
+        (λ e. TakesNot loading.old store.old e loading.new store.new) }
 {
     if fits(loading, &row)? {
         loading.read += 1;
@@ -156,7 +160,8 @@ fn fits(loading: &mut Loading, row: &Op) -> Result<bool, Refusal>
 
 // Adds a row to a batch, unless the batch would get too big.
 fn has_taken(batch: &mut Batch, row: &Op) -> Result<bool, Refusal>
-    ensures added { IfOk result (λ taken. batch.new ≡ (if taken then batch.old ++ row.now ∷ [] else batch.old)) }
+    ensures added { IfOk result
+        (λ taken. batch.new ≡ (if taken then batch.old ++ row.now ∷ [] else batch.old)) }
     ensures same { OnErr result (batch.new ≡ batch.old) }
     ensures refused { IfErr result (λ e. e ≡ NoMemory) }
 {
@@ -184,7 +189,8 @@ fn commit_waiting<D: Device>(
     store: &mut Store<D>,
     loading: &mut Loading,
 ) -> Result<(), Refusal>
-    ensures { MatchResult result (λ _. CommitsWaiting loading.old store.old loading.new store.new) (λ e. WaitingRefused loading.old store.old e loading.new store.new) }
+    ensures { MatchResult result (λ _. CommitsWaiting loading.old store.old loading.new store.new)
+        (λ e. WaitingRefused loading.old store.old e loading.new store.new) }
 {
     commit_batch(alloc, store, &loading.batch)?;
     loading.batch = None;
@@ -197,7 +203,8 @@ fn commit_batch<D: Device>(
     store: &mut Store<D>,
     waiting: &Option<Batch>,
 ) -> Result<(), Refusal>
-    ensures { MatchResult result (λ _. AddsWaiting waiting.now store.old store.new) (λ e. AddsNot (rows_waiting waiting.now) store.old e store.new) }
+    ensures { MatchResult result (λ _. AddsWaiting waiting.now store.old store.new)
+        (λ e. AddsNot (rows_waiting waiting.now) store.old e store.new) }
 {
     match waiting {
         Some(batch) => {

@@ -38,7 +38,8 @@ pub(crate) fn open_read_only<R: Files<File = File> + AllocGlobal>(
     file: &str,
 ) -> Result<FileDevice, Fault>
     ensures unused { IfOk result (λ d. (⟦<FileDevice as Device>⟧.medium d).calls ≡ no_calls) }
-    ensures refused { IfErr result (λ e. IsRefusalBy (λ r. (r ≡ NoMemory) ⊎ (r ≡ Io)) (reason_of e)) }
+    ensures refused { IfErr result
+        (λ e. IsRefusalBy (λ r. (r ≡ NoMemory) ⊎ (r ≡ Io)) (reason_of e)) }
 {
     match FileDevice::open_read_only(rt, file) {
         Ok(device) => Ok(device),
@@ -53,8 +54,10 @@ pub(crate) fn create_beside<R: Files<File = File> + AllocGlobal>(
     sectors: u32,
 ) -> Result<(FileDevice, Replacement), Fault>
     ensures size { IfOk result (λ made. (⟦<FileDevice as Device>⟧.medium made.0).size ≡ sectors) }
-    ensures unused { IfOk result (λ made. (⟦<FileDevice as Device>⟧.medium made.0).calls ≡ no_calls) }
-    ensures refused { IfErr result (λ e. IsRefusalBy (λ r. (r ≡ NoMemory) ⊎ (r ≡ Io)) (reason_of e)) }
+    ensures unused { IfOk result
+        (λ made. (⟦<FileDevice as Device>⟧.medium made.0).calls ≡ no_calls) }
+    ensures refused { IfErr result
+        (λ e. IsRefusalBy (λ r. (r ≡ NoMemory) ⊎ (r ≡ Io)) (reason_of e)) }
 {
     match FileDevice::create_beside(rt, file, sectors) {
         Ok(made) => Ok(made),

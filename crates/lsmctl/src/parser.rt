@@ -19,7 +19,9 @@ use std::convert::AsStr;
 /// Reads the words after the program's name.
 pub fn asked_for<'a, S: AsStr>(alloc: Global, words: &'a [S]) -> Result<Asked<'a>, Fault>
     ensures asked { IfOk result (IsAsked (map S.text words.entry.now)) }
-    ensures faults { IfErr result (λ e. ((reason_of e ≡ mistake) × AskNothing (map S.text words.entry.now)) ⊎ (reason_of e ≡ refusal NoMemory)) }
+    ensures faults { IfErr result
+        (λ e. ((reason_of e ≡ mistake) × AskNothing (map S.text words.entry.now))
+        ⊎ (reason_of e ≡ refusal NoMemory)) }
 {
     let matches = parsed(alloc, words)?;
     if let Some(word) = dashed(words) {
@@ -33,9 +35,12 @@ pub fn asked_for<'a, S: AsStr>(alloc: Global, words: &'a [S]) -> Result<Asked<'a
 
 // What the parser finds in the words.
 fn parsed<'a, S: AsStr>(alloc: Global, words: &'a [S]) -> Result<ArgMatches<'a>, Fault>
-    ensures found { IfOk result (λ m. subcommand_rows_of m ≡ subcommand_of program (map S.text words.entry.now)) }
+    ensures found { IfOk result
+        (λ m. subcommand_rows_of m ≡ subcommand_of program (map S.text words.entry.now)) }
     ensures faultless { IfOk result (λ _. fault_of program (map S.text words.entry.now) ≡ []) }
-    ensures faults { IfErr result (λ e. ((reason_of e ≡ mistake) × AskNothing (map S.text words.entry.now)) ⊎ (reason_of e ≡ refusal NoMemory)) }
+    ensures faults { IfErr result
+        (λ e. ((reason_of e ≡ mistake) × AskNothing (map S.text words.entry.now))
+        ⊎ (reason_of e ≡ refusal NoMemory)) }
 {
     let command = command(alloc)?;
     match command.try_get_matches_from(words) {
@@ -126,7 +131,8 @@ fn command<'a>(alloc: Global) -> Result<Command<'a>, AllocError>
 
 // The command with the subcommands that go over all rows.
 fn with_rows<'a>(alloc: Global, command: Command<'a>) -> Result<Command<'a>, AllocError>
-    ensures { IfOk result (λ r. (app : App) → IsCommand app command.entry → IsCommand (with_rows app) r) }
+    ensures { IfOk result (λ r. (app : App) → IsCommand app command.entry
+        → IsCommand (with_rows app) r) }
 {
     let command = adding(
         alloc,
@@ -155,7 +161,8 @@ fn with_rows<'a>(alloc: Global, command: Command<'a>) -> Result<Command<'a>, All
 
 // The command with the subcommands that do many things: the steps of a script, or all that threads do at the same time.
 fn with_scripts<'a>(alloc: Global, command: Command<'a>) -> Result<Command<'a>, AllocError>
-    ensures { IfOk result (λ r. (app : App) → IsCommand app command.entry → IsCommand (with_scripts app) r) }
+    ensures { IfOk result (λ r. (app : App) → IsCommand app command.entry
+        → IsCommand (with_scripts app) r) }
 {
     let command = adding(
         alloc,
@@ -197,7 +204,8 @@ fn with_scripts<'a>(alloc: Global, command: Command<'a>) -> Result<Command<'a>, 
 
 // The command with the subcommands that make and change a store.
 fn with_changes<'a>(alloc: Global, command: Command<'a>) -> Result<Command<'a>, AllocError>
-    ensures { IfOk result (λ r. (app : App) → IsCommand app command.entry → IsCommand (with_changes app) r) }
+    ensures { IfOk result (λ r. (app : App) → IsCommand app command.entry
+        → IsCommand (with_changes app) r) }
 {
     let command = adding(
         alloc,
@@ -258,7 +266,8 @@ fn taking<'a>(
     about: &'a str,
     places: &[&'a str],
 ) -> Result<Command<'a>, AllocError>
-    ensures { IfOk result (IsCommand (with_words (new_app name.entry.now) (map (λ place. place.now) places.now))) }
+    ensures { IfOk result
+        (IsCommand (with_words (new_app name.entry.now) (map (λ place. place.now) places.now))) }
 {
     let mut command = Command::new(alloc, name).about(about);
     for place in places {
@@ -277,7 +286,8 @@ fn word<'a>(alloc: Global, place: &'a str) -> Arg<'a>
 
 // A subcommand's words from their places.
 fn subcommand<'a>(name: &str, given: &ArgMatches<'a>) -> Result<Asked<'a>, Usage>
-    ensures { MatchResult result (Asks name.now (rows_of (found_of given.now))) (λ _. has_words name.now (rows_of (found_of given.now)) ≡ false) }
+    ensures { MatchResult result (Asks name.now (rows_of (found_of given.now)))
+        (λ _. has_words name.now (rows_of (found_of given.now)) ≡ false) }
 {
     match name {
         "format" => {
@@ -307,7 +317,8 @@ fn subcommand<'a>(name: &str, given: &ArgMatches<'a>) -> Result<Asked<'a>, Usage
 
 // The words of a subcommand that reads a store or does many things.
 fn other<'a>(name: &str, given: &ArgMatches<'a>) -> Result<Asked<'a>, Usage>
-    ensures { MatchResult result (Asks name.now (rows_of (found_of given.now))) (λ _. has_other_words name.now (rows_of (found_of given.now)) ≡ false) }
+    ensures { MatchResult result (Asks name.now (rows_of (found_of given.now)))
+        (λ _. has_other_words name.now (rows_of (found_of given.now)) ≡ false) }
 {
     match name {
         "get" => {
@@ -348,7 +359,8 @@ fn other<'a>(name: &str, given: &ArgMatches<'a>) -> Result<Asked<'a>, Usage>
 
 // The words of a subcommand that does many things.
 fn script<'a>(name: &str, given: &ArgMatches<'a>) -> Result<Asked<'a>, Usage>
-    ensures { MatchResult result (Asks name.now (rows_of (found_of given.now))) (λ _. has_script_words name.now (rows_of (found_of given.now)) ≡ false) }
+    ensures { MatchResult result (Asks name.now (rows_of (found_of given.now)))
+        (λ _. has_script_words name.now (rows_of (found_of given.now)) ≡ false) }
 {
     match name {
         "replay" => {
@@ -391,7 +403,9 @@ fn four<'a>(
         MatchResult result
         (λ words. (HasWord rows first.now words.0.now) × (HasWord rows second.now words.1.now)
         × (HasWord rows third.now words.2.now) × (HasWord rows fourth.now words.3.now))
-        (λ _. (has_word rows first.now && (has_word rows second.now && (has_word rows third.now && has_word rows fourth.now))) ≡ false) }
+        (λ _. (has_word rows first.now
+        && (has_word rows second.now
+        && (has_word rows third.now && has_word rows fourth.now))) ≡ false) }
 {
     let first = at(given, first)?;
     let (second, third, fourth) = three(given, second, third, fourth)?;
@@ -407,8 +421,10 @@ fn three<'a>(
 ) -> Result<(&'a str, &'a str, &'a str), Usage>
     ensures { let rows = rows_of (found_of given.now) in
         MatchResult result
-        (λ words. (HasWord rows first.now words.0.now) × (HasWord rows second.now words.1.now) × (HasWord rows third.now words.2.now))
-        (λ _. (has_word rows first.now && (has_word rows second.now && has_word rows third.now)) ≡ false) }
+        (λ words. (HasWord rows first.now words.0.now) × (HasWord rows second.now words.1.now)
+        × (HasWord rows third.now words.2.now))
+        (λ _. (has_word rows first.now && (has_word rows second.now && has_word rows third.now))
+        ≡ false) }
 {
     let first = at(given, first)?;
     let (second, third) = two(given, second, third)?;

@@ -37,11 +37,14 @@ pub fn run<
     ensures status { result ≤ 2 }
 
     // A run that ends with 0 did what the words and the input ask for, printed just the lines of its answer, and no fault.
-    ensures done { result ≡ 0 → HasServed (map S.text words.entry.now) (I.remaining input.old) (O.contents output.old) (O.contents output.new) }
+    ensures done { result ≡ 0 → HasServed (map S.text words.entry.now) (I.remaining input.old)
+        (O.contents output.old) (O.contents output.new) }
     ensures no_fault { result ≡ 0 → Keeps (E.contents errors.old) (E.contents errors.new) }
 
     // One that ends with 2 found a mistake in the words or the input, and printed no answer, but how many rows it loaded before.
-    ensures mistake { result ≡ 2 → FindsMistake (map S.text words.entry.now) (I.remaining input.old) (O.contents output.old) (O.contents output.new) }
+    ensures mistake { result ≡ 2
+        → FindsMistake (map S.text words.entry.now) (I.remaining input.old) (O.contents output.old)
+        (O.contents output.new) }
 {
     let answered = answer(rt, words, input, output, progress);
     conclude(&answered, output, errors)
@@ -55,8 +58,11 @@ fn answer<
     O: Write,
     P: Progress,
 >(rt: &R, words: &[S], input: &mut I, output: &mut O, progress: &mut P) -> Result<Answer, Fault>
-    ensures { MatchResult result (IsServed (map S.text words.entry.now) (I.remaining input.old) (O.contents output.old) (O.contents output.new))
-        (λ fault. Fails (map S.text words.entry.now) (I.remaining input.old) (reason_of fault) (O.contents output.old) (O.contents output.new)) }
+    ensures { MatchResult result
+        (IsServed (map S.text words.entry.now) (I.remaining input.old) (O.contents output.old)
+        (O.contents output.new))
+        (λ fault. Fails (map S.text words.entry.now) (I.remaining input.old) (reason_of fault)
+        (O.contents output.old) (O.contents output.new)) }
 {
     let asked = asked_for(rt.alloc(), words)?;
     let text = script_text(rt.alloc(), &asked, input)?;

@@ -25,7 +25,9 @@ pub fn push_replies(
     told: &[Told],
     replies: &[Reply],
 ) -> Result<(), Refusal>
-    ensures text { OnOk result (string_bytes text.new ≡ string_bytes text.old ++ replies_text told.now (map told_of replies.now)) }
+    ensures text { OnOk result
+        (string_bytes text.new
+        ≡ string_bytes text.old ++ replies_text told.now (map told_of replies.now)) }
     ensures refused { IfErr result (λ e. e ≡ NoMemory) }
 {
     let mut rest = replies;
@@ -66,7 +68,8 @@ pub fn push_lives(
 
 /// Adds a line for each row of a page, and one for where the next page begins.
 pub fn push_page(alloc: Global, text: &mut String, page: &Page) -> Result<(), Refusal>
-    ensures text { OnOk result (string_bytes text.new ≡ string_bytes text.old ++ page_lines page.now) }
+    ensures text { OnOk result
+        (string_bytes text.new ≡ string_bytes text.old ++ page_lines page.now) }
     ensures refused { IfErr result (λ e. e ≡ NoMemory) }
 {
     push_row_lines(alloc, text, page)?;
@@ -76,7 +79,8 @@ pub fn push_page(alloc: Global, text: &mut String, page: &Page) -> Result<(), Re
 
 /// Adds a line for each row of a page.
 pub fn push_row_lines(alloc: Global, text: &mut String, page: &Page) -> Result<(), Refusal>
-    ensures text { OnOk result (string_bytes text.new ≡ string_bytes text.old ++ flat_map row_line page.now.rows) }
+    ensures text { OnOk result
+        (string_bytes text.new ≡ string_bytes text.old ++ flat_map row_line page.now.rows) }
     ensures refused { IfErr result (λ e. e ≡ NoMemory) }
 {
     for row in page.rows() {

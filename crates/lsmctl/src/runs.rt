@@ -27,7 +27,8 @@ pub fn replay<R: Threads + Sync, D: Device>(
     store: &mut Store<D>,
     steps: &Steps,
 ) -> Result<Output, Refusal>
-    ensures tells { IfOk result (HasReplies (map asked_of steps.now.steps.items) steps.now.told.items store.old store.new) }
+    ensures tells { IfOk result
+        (HasReplies (map asked_of steps.now.steps.items) steps.now.told.items store.old store.new) }
     ensures refused { IfErr result (λ e. e ≡ NoMemory) }
 {
     let replies = lsm_lives::replay(rt, alloc, store, &steps.steps)?;
@@ -44,7 +45,9 @@ pub fn lives<R: Threads + Sync>(
     geometry: Geometry,
     script: Vec<Line>,
 ) -> Result<Output, Refusal>
-    ensures tells { IfOk result (HasLives geometry.sectors geometry.log_sectors (lives_said script.items) (told_lives script.items)) }
+    ensures tells { IfOk result
+        (HasLives geometry.sectors geometry.log_sectors (lives_said script.items)
+        (told_lives script.items)) }
     ensures refused { IfErr result (λ e. e ≡ NoMemory) }
 {
     let Lives { lives, told } = lives_of(alloc, script)?;
@@ -60,7 +63,8 @@ pub fn lives<R: Threads + Sync>(
 
 // A device in memory with an empty store. Without a fuse it fails only where memory for its writes is refused.
 fn formatted(alloc: Global, geometry: Geometry) -> Result<MemDevice, AllocError>
-    ensures leaves { IfOk result (λ device. Leaves (StandFor geometry.log_sectors empty_store) (disk (medium_in device))) }
+    ensures leaves { IfOk result
+        (λ device. Leaves (StandFor geometry.log_sectors empty_store) (disk (medium_in device))) }
     ensures size { IfOk result (λ device. (medium_in device).size ≡ geometry.sectors) }
 {
     let device = MemDevice::new(alloc, geometry.sectors())?;

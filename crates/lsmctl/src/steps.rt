@@ -90,9 +90,17 @@ pub struct Lives {
 impl Lives {
     // Ends a life by a crash, after the others.
     fn end(&mut self, alloc: Global, begun: Begun, kept: Kept) -> Result<(), AllocError>
-        ensures lives { OnOk result (map life_of self.new.lives.items ≡ map life_of self.old.lives.items
-            ++ (begun.fuse, begun.steps.steps.items, mask_said kept (length begun.steps.steps.items)) ∷ []) }
-        ensures told { OnOk result (map (λ told. told.items) self.new.told.items ≡ map (λ told. told.items) self.old.told.items
+        ensures lives { OnOk result
+            (map life_of self.new.lives.items ≡ map life_of self.old.lives.items
+            ++ (
+              begun.fuse,
+              begun.steps.steps.items,
+              mask_said kept
+                  (length begun.steps.steps.items),
+            ) ∷ []) }
+        ensures told { OnOk result
+            (map (λ told. told.items) self.new.told.items
+            ≡ map (λ told. told.items) self.old.told.items
             ++ begun.steps.told.items ∷ []) }
     {
         let Begun { fuse, steps } = begun;
@@ -116,7 +124,8 @@ struct Begun {
 
 impl Begun {
     fn new(alloc: Global) -> Result<Begun, AllocError>
-        ensures { IfOk result (λ begun. (begun.fuse ≡ None) × (begun.steps.steps.items ≡ []) × (begun.steps.told.items ≡ opened)) }
+        ensures { IfOk result (λ begun. (begun.fuse ≡ None) × (begun.steps.steps.items ≡ [])
+            × (begun.steps.told.items ≡ opened)) }
     {
         let mut steps = Steps::new(alloc);
         steps.told.push(Told::Reply(Counted::Opened))?;
@@ -126,8 +135,10 @@ impl Begun {
 
 /// The lives of a script. Its end ends the last of them, unless a crash did.
 pub fn lives_of(alloc: Global, lines: Vec<Line>) -> Result<Lives, AllocError>
-    ensures lives { IfOk result (λ lives. map life_of lives.lives.items ≡ lives_after [] None [] (ended lines.items)) }
-    ensures told { IfOk result (λ lives. map (λ told. told.items) lives.told.items ≡ told_lives lines.items) }
+    ensures lives { IfOk result
+        (λ lives. map life_of lives.lives.items ≡ lives_after [] None [] (ended lines.items)) }
+    ensures told { IfOk result
+        (λ lives. map (λ told. told.items) lives.told.items ≡ told_lives lines.items) }
 {
     let lines = ended(lines)?;
     let mut lives = Lives {

@@ -12,7 +12,9 @@ use std::alloc::{AllocError, Global};
 
 /// Whether a table lies within another.
 fn lies_within(outer: &PlacedTable, table: &PlacedTable) -> bool
-    ensures { result ≡ (at_most table.now.first table.now.last && (at_most outer.now.first table.now.first && at_most table.now.last outer.now.last)) }
+    ensures { result
+        ≡ (at_most table.now.first table.now.last
+        && (at_most outer.now.first table.now.first && at_most table.now.last outer.now.last)) }
 {
     table.first().cmp(table.last()).is_le()
         && (outer.first().cmp(table.first()).is_le() && table.last().cmp(outer.last()).is_le())
@@ -20,7 +22,9 @@ fn lies_within(outer: &PlacedTable, table: &PlacedTable) -> bool
 
 /// Handles of the tables that a rewrite of the one of this number takes in, with the level above theirs.
 fn taken(alloc: Global, levels: &Levels, number: u64) -> Option<(usize, Vec<PlacedTable>)>
-    ensures { IfSome result (λ t. HasItsTables levels.now (is_bottom levels.now (Merge t.0 [] t.1.items)) t.0 [] t.1.items) }
+    ensures { IfSome result
+        (λ t. HasItsTables levels.now (is_bottom levels.now (Merge t.0 [] t.1.items)) t.0 []
+        t.1.items) }
 {
     let _runs = levels.runs();
     let choice = Choice::Rewrite {

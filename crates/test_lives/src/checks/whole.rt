@@ -17,7 +17,8 @@ use std::thread::Threads;
 
 // Checks a device that is handed over.
 fn checked(alloc: Global, device: MemDevice) -> Result<Report, Finding>
-    ensures { (log_sectors : ℕ) (left : CrashState) → Leaves (StandFor log_sectors left) (disk (medium_in device)) → IfErr result IsNoVerdict }
+    ensures { (log_sectors : ℕ) (left : CrashState)
+        → Leaves (StandFor log_sectors left) (disk (medium_in device)) → IfErr result IsNoVerdict }
 {
     let mut device = device;
     let report = check(alloc, &mut device)?;
@@ -32,7 +33,8 @@ pub fn check_after_lives<R: Threads + Sync>(
     device: MemDevice,
     given: &[Life],
 ) -> Result<Report, Finding>
-    ensures { (log_sectors : ℕ) (before : List (List Operation)) (opened : CrashState) → IsAfter before opened → Leaves (StandFor log_sectors opened) (disk (medium_in device))
+    ensures { (log_sectors : ℕ) (before : List (List Operation)) (opened : CrashState)
+        → IsAfter before opened → Leaves (StandFor log_sectors opened) (disk (medium_in device))
         → IfErr result IsNoVerdict }
 {
     match lives(rt, alloc, device, given) {
