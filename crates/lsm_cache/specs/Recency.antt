@@ -1,5 +1,5 @@
 -- Which blocks a cache keeps, the last one asked for first.
-use Rattle.std.specs.Prelude.{◌≡◌, ◌⊎◌, ℕ, ◌+◌, ◌%◌, ◌^◌, Bool, not, is_some, ◌&&◌, ◌==◌, List, ◌∷◌, filter, take, Option, None, Some, if◌then◌else◌}
+use Rattle.std.specs.Prelude.{◌≡◌, ◌⊎◌, ℕ, ◌+◌, ◌%◌, ◌^◌, Bool, not, is_some, ◌&&◌, ◌==◌, List, ◌∷◌, filter, replicate, take, Option, None, Some, if◌then◌else◌}
 use Rattle.std.specs.Map.{lookup}
 use Rattle.std.specs.Arc.{arc_value}
 use Rattle.std.specs.declared.sync.Arc.{Arc}
@@ -47,3 +47,8 @@ named_bytes e = (e.0, arc_value e.1)
 abbrev pub kept_or : {A : Type 0} → List ℕ → Option (Arc (List ℕ) A) → List ℕ
 kept_or own None = own
 kept_or own (Some kept) = arc_value kept
+
+-- the bytes of a block that was read, or zeros
+abbrev pub read_or_zeros : Option (List ℕ) → List ℕ
+read_or_zeros None = replicate {A = ℕ} 4096 0
+read_or_zeros (Some bytes) = bytes

@@ -154,8 +154,8 @@ impl<A: Allocator + Clone> Cache<A> {
         if self.find(name, out) {
             return Ok(());
         }
-        out.read(device, sector)?;
-        self.keep(name, out.as_array());
+        out.read(self.blocks.allocator(), device, sector)?;
+        self.keep(name, out);
         Ok(())
     }
 
@@ -183,7 +183,7 @@ impl<A: Allocator + Clone> Cache<A> {
     }
 
     /// Keeps a block that is not kept yet, where there is memory for it.
-    fn keep(&mut self, name: BlockName, bytes: &[u8; 4_096])
+    fn keep(&mut self, name: BlockName, bytes: &BlockBytes<A>)
         requires { bytes_of name self.old ≡ None }
         ensures { (self.new ≡ asked name bytes.now self.old) ⊎ (self.new ≡ refused self.old) }
     {
@@ -193,14 +193,13 @@ impl<A: Allocator + Clone> Cache<A> {
     }
 
     /// Keeps it, or changes nothing.
-    fn put(&mut self, name: BlockName, bytes: &[u8; 4_096]) -> Result<(), AllocError>
+    fn put(&mut self, name: BlockName, bytes: &BlockBytes<A>) -> Result<(), AllocError>
         requires { bytes_of name self.old ≡ None }
         ensures keeps { OnOk result (self.new ≡ asked name bytes.now self.old) }
         ensures stays { OnErr result (self.new ≡ self.old) }
     {
         prove!(self.blocks.cap().get() > 0);
-        let alloc = self.blocks.allocator().clone()?;
-        let block = Arc::new(alloc, *bytes)?;
+        let block = bytes.shared()?;
         self.blocks.put(name, block)?;
         Ok(())
     }

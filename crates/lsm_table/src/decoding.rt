@@ -14,8 +14,8 @@ use std::alloc::Allocator;
 /// The entries for which there is room before more is asked for. Those of 129 bytes fill a block with 31.
 const ENTRIES_AT_FIRST: usize = 64;
 
-/// The entries that the bytes of a data block spell, copied into one block of memory that they share. `BadTable` exactly where
-/// the bytes spell none; otherwise it fails with `NoMemory` alone.
+/// The entries that the bytes of a data block spell, copied into one block of memory that they share. It fails with `BadTable` only where
+/// the bytes spell none, and else with `NoMemory`.
 pub fn decode_data_block<A: Allocator + Clone>(
     alloc: &A,
     block: &[u8; 4_096],

@@ -1,4 +1,3 @@
-use Rattle.std.proofs.Common.{◌∙◌, sym}
 use Rattle.lsm_cache.proofs.block_bytes.BlockBytes.show.Goals.{in-Some-1, in-None-1, in-Some-2, in-None-2}
 use Rattle.lsm_cache.proofs.block_bytes.BlockBytes.show.Goals as goal
 

@@ -28,4 +28,4 @@ returns-clause-counted g c = rw c.if-find.ensures.absent c.in_ok-read.ensures.co
 
 pub returns-clause-keeps : goal.returns-clause-keeps
 returns-clause-keeps g c =
-    asked_new c.args.name c.read.new.self c.find.new.self c.args.self.now c.keep.new.self c.if-find.ensures.stays (rw c.if-find.ensures.stays c.if-find.ensures.absent) (rw c.as_array.ensures at c.keep.ensures)
+    asked_new c.args.name c.read.new.self c.find.new.self c.args.self.now c.keep.new.self c.if-find.ensures.stays (rw c.if-find.ensures.stays c.if-find.ensures.absent) c.keep.ensures
