@@ -15,20 +15,14 @@ const PARTS: [u64; 3] = [8, 2, 1];
 /// But each is at least this number of blocks.
 const LEAST_LIMIT: u64 = 16;
 
-/// Runs of level 0 that take at least this part of all blocks go down where there are [`FEW_RUNS`].
-const LARGE_PART: u64 = 24;
-
-/// The runs of level 0 from which on they go down where they are large.
-const FEW_RUNS: usize = 3;
-
 /// The numbers by which merges are chosen. [`Policy::new`] has good ones.
 #[derive(Clone, Copy, Debug)]
 pub struct Policy {
-    /// From this number of runs on the runs of level 0 are merged down, as many at once as take in no more blocks than are free; from
-    /// three on where they take a twenty-fourth of all blocks. A higher number writes less, and leaves more places for a look-up or a scan
-    /// to ask.
+    /// From this number of runs on the runs of level 0 are merged down, as many at once as take in no more blocks than are free. A
+    /// higher number writes less, and leaves more places for a look-up or a scan to ask. From four runs on the store's `job_take` takes
+    /// the oldest alone, so a caller that uses it too sets fewer.
     pub runs: usize,
-    /// The limits of levels 1 to 3, in blocks. A level has no more than an eighth of all blocks in level 1, and than half of them in
+    /// The limits of levels 1 to 3, in blocks. In a small store they are lower: an eighth of all blocks for level 1, and half of them for
     /// level 2.
     pub limits: [u64; 3],
     /// The most blocks that a merge of several neighbours, or several runs, takes in.
@@ -52,16 +46,16 @@ impl Default for Policy {
 }
 
 impl Policy {
-    /// Six runs; limits of 448, 2,800 and 16,384 blocks; 1,024 blocks; 768 tables; two blocks for each that is free.
+    /// Three runs; limits of 448, 2,800 and 16,384 blocks; 1,024 blocks; 768 tables; two blocks for each that is free.
     ///
-    /// The store's `job_take` has rules of its own, by which smaller levels go down: from four runs on, and from 256 and 2,048 blocks. So
-    /// a caller that uses both merges more than by one of them.
+    /// The store's `job_take` has rules of its own, by which smaller levels go down: from 256 and 2,048 blocks on. So a caller that uses
+    /// both merges more than by one of them.
     pub fn new() -> Policy
         ensures tables { result.most_tables ≡ 768 }
         ensures room { result.taken_for_each_free ≡ 2 }
     {
         Policy {
-            runs: 6,
+            runs: 3,
             limits: [448, 2_800, 16_384],
             most_blocks: 1_024,
             most_tables: 768,
@@ -93,8 +87,8 @@ impl Policy {
     /// The merge to choose next, with `free_blocks` blocks free and the slots held by these jobs: the first of these that exists,
     /// may be taken, and takes in no more blocks than are free.
     ///
-    /// 1. From [`runs`](Policy::runs) on, or from three on if they are large, all runs of level 0; or the most of the oldest ones that
-    ///    take in no more blocks than are free, nor, if they are several, than [`most_blocks`](Policy::most_blocks).
+    /// 1. From [`runs`](Policy::runs) on all runs of level 0; or the most of the oldest ones that take in no more blocks than are
+    ///    free, nor, if they are several, than [`most_blocks`](Policy::most_blocks).
     /// 2. Of the least level from 1 to 3 that is over its limit: the neighbours that go down for the fewest blocks of the next level
     ///    a block of their own. If room is scarce those with the oldest table. Of equal ones the widest. Several tables go only where
     ///    no other merge is held.
@@ -129,10 +123,10 @@ impl Policy {
         bounds: Bounds,
         held: &H,
     ) -> Option<Choice> {
-        let area = area_of(levels, bounds.room);
-        if let Some(choice) = runs_of(levels, self.least_runs(levels, area), bounds, held) {
+        if let Some(choice) = runs_of(levels, self.runs, bounds, held) {
             return Some(choice);
         }
+        let area = area_of(levels, bounds.room);
         let [level_1, level_2, level_3, level_4] = levels.deeper() else {
             return None;
         };
@@ -148,14 +142,6 @@ impl Policy {
         }
         let limit_3 = limit_3.min(part_of(area, part_3));
         tables_of(level_3, level_4, limit_3, bounds, held)
-    }
-
-    /// From how many runs on those of level 0 go down, in an area of so many blocks.
-    fn least_runs<A: Allocator>(&self, levels: &Levels<A>, area: u64) -> usize {
-        if blocks_of_runs(levels.runs()) >= area / LARGE_PART {
-            return self.runs.min(FEW_RUNS);
-        }
-        self.runs
     }
 }
 

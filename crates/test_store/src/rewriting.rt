@@ -1,7 +1,8 @@
 //! Tables that are written anew in their own place.
 
 use crate::subject::Subject;
-use crate::upkeep::{of_three_runs, with_four_levels};
+use crate::upkeep::with_four_levels;
+use lsm_policy::Policy;
 use std::process::Abort;
 
 /// Whether all tables of a level are rewritten, divided at these keys, and become as many as there are parts, with later numbers. The
@@ -43,7 +44,7 @@ fn neighbours_become_one_table_and_it_becomes_two(rt: HostRuntime) {
     let mut store = with_four_levels(&rt, rt.alloc());
     store.settle();
     store.put_and_rotate(&rt, 0x66);
-    store.compact(&of_three_runs());
+    store.compact(&Policy::new());
     assert!(rt; store.shape() == [0, 2, 1, 1, 0] && store.tables(&rt) == 4);
     assert!(rt; is_rewritten(&rt, &mut store, 1, &[], 6) && store.tables(&rt) == 3);
     // Level 1 has the keys from 63 on.

@@ -47,14 +47,6 @@ pub(crate) fn with_four_levels<R: Abort>(rt: &R, alloc: Global) -> Subject {
     store
 }
 
-/// The policy by which three runs go down.
-pub(crate) fn of_three_runs() -> Policy {
-    Policy {
-        runs: 3,
-        ..Policy::new()
-    }
-}
-
 #[test]
 fn compaction_does_what_the_policy_advises(rt: HostRuntime) {
     let mut store = with_four_levels(&rt, rt.alloc());
@@ -62,7 +54,7 @@ fn compaction_does_what_the_policy_advises(rt: HostRuntime) {
     // Two runs, and a put that waits: its flush comes first, then all three runs go, and become one table.
     store.settle();
     store.put_and_rotate(&rt, 0x66);
-    store.compact(&of_three_runs());
+    store.compact(&Policy::new());
     assert!(rt; store.shape() == [0, 2, 1, 1, 0] && store.has_just(&rt, 6));
 }
 

@@ -46,7 +46,7 @@ const TAKES_15: Slots = Slots::Merge {
 /// A merge of level 3.
 const OF_LEVEL_3: Slots = Slots::Merge { level: 3, table: 0 };
 
-/// Three runs go, as many as find room, where they have a twenty-fourth of all blocks. Each table has four.
+/// Three runs go, as many as find room. Each table has four blocks.
 const THREE_RUNS: Shape = (
     &[&[(2, 0x61)], &[(3, 0x62)], &[(4, 0x63)]],
     &[],
@@ -59,23 +59,7 @@ const THREE_RUNS: Shape = (
         (3, Slots::Free, Nothing),
         (100, OF_LEVEL_0, Nothing),
         (100, Slots::Several, Nothing),
-        (299, Slots::Free, Runs(3)),
-        (300, Slots::Free, Nothing),
     ],
-);
-
-/// Six runs go, however few blocks they have.
-const SIX_RUNS: Shape = (
-    &[
-        &[(2, 0x61)],
-        &[(3, 0x62)],
-        &[(4, 0x63)],
-        &[(5, 0x64)],
-        &[(6, 0x65)],
-        &[(7, 0x66)],
-    ],
-    &[],
-    &[(10_000, Slots::Free, Runs(6))],
 );
 
 /// Two runs stay.
@@ -128,14 +112,7 @@ const WITHIN_LIMITS: Shape = (
 
 #[test]
 fn advice_on_small_levels(rt: HostRuntime) {
-    for (runs, deeper, cases) in [
-        THREE_RUNS,
-        SIX_RUNS,
-        TWO_RUNS,
-        OVER_LIMIT,
-        LEVEL_2,
-        WITHIN_LIMITS,
-    ] {
+    for (runs, deeper, cases) in [THREE_RUNS, TWO_RUNS, OVER_LIMIT, LEVEL_2, WITHIN_LIMITS] {
         let levels = levels_of(&rt, rt.alloc(), runs, deeper);
         for case in cases {
             assert!(rt; is_advised(&levels, *case), "{deeper:?} {}", case.0);
