@@ -1,5 +1,6 @@
 // A device over a mapping, for one call.
-ghost use Rattle.std.specs.Prelude.{◌≡◌, ◌↔◌, ◌<◌, ◌≤◌, ◌^◌, ◌+◌, ◌*◌, All, IsTrue, is_ok, length, take, drop};
+ghost use Rattle.std.specs.Prelude.{◌≡◌, ◌↔◌, ◌<◌, ◌≤◌, ◌^◌, ◌+◌, ◌*◌, All, IsTrue, IsFalse, is_ok, length, take, drop};
+ghost use Rattle.lsm_device.specs.Calls.{after_reads, ReadFaultsAmong};
 ghost use Rattle.lsm_mapped.specs.Disks.{IsPast, IsWithin};
 ghost use Rattle.lsm_mapped.specs.Journals.{Fills, records_in};
 
@@ -91,22 +92,47 @@ fn answer(ok: bool) -> Result<(), Fault>
     if ok { Ok(()) } else { Err(Fault) }
 }
 
+// Copies sectors of the mapping that lie side by side, where it has them all.
+fn copy_run(image: &[u8], at: u32, out: &mut [u8]) -> bool
+    ensures there { IsTrue result ↔ (512 * at + length out.old ≤ length image.now) }
+    ensures bytes { IsTrue result → out.new ≡ take (length out.old) (drop (512 * at) image.now) }
+{
+    let from = SECTOR_BYTES * at as usize;
+    if image.len() < from || image.len() - from < out.len() {
+        return false;
+    }
+    out.copy_from_slice(&image[from..from + out.len()]);
+    true
+}
+
 // Copies a sector of the mapping, where it has it.
 fn copy(image: &[u8], at: u32, out: &mut [u8; 512]) -> bool
     ensures there { IsTrue result ↔ (512 * at + 512 ≤ length image.now) }
     ensures bytes { IsTrue result → out.new ≡ take 512 (drop (512 * at) image.now) }
 {
-    let from = SECTOR_BYTES * at as usize;
-    if image.len() < from + SECTOR_BYTES {
-        return false;
+    copy_run(image, at, out)
+}
+
+// Counts the reads that a call made: so many that answered Ok, or one that faulted.
+fn count_run(calls: &mut Calls, count: usize, ok: bool)
+    requires { 1 ≤ count }
+    ensures counted { IsTrue ok → calls.new ≡ after_reads count calls.old }
+    ensures faulted { IsFalse ok → ReadFaultsAmong count calls.old calls.new }
+{
+    if !ok {
+        calls.count_read(false);
+        return;
     }
-    out.copy_from_slice(&image[from..from + SECTOR_BYTES]);
-    true
+    for done in 0..count {
+        calls.count_read(true);
+    }
 }
 
 impl<'a> Device for MappedDevice<'a> {
-    ghost use Rattle.std.specs.Prelude.{◌≡◌, ◌↔◌, ◌<◌, ◌≤◌, ◌⊎◌, ◌+◌, ◌*◌, false, true, length, IsTrue, OnOk, OnErr, is_ok, slice_get, Some};
-    ghost use Rattle.lsm_device.specs.Calls.{after_read, after_write, after_sync};
+    ghost use Rattle.std.specs.Prelude.{◌≡◌, ◌↔◌, ◌<◌, ◌≤◌, ◌⊎◌, ◌+◌, ◌*◌, ◌/◌, ◌%◌, false, true, length, IsTrue, OnOk, OnErr, is_ok, slice_get, Some};
+    ghost use Rattle.std.specs.List.{concat};
+    ghost use Rattle.lsm_device.specs.Areas.{area};
+    ghost use Rattle.lsm_device.specs.Calls.{after_read, after_reads, after_write, after_sync, ReadFaultsAmong};
     ghost use Rattle.lsm_device.specs.Disk.{seen, appended, synced};
     ghost use Rattle.lsm_device.specs.History.{Becomes};
     ghost use Rattle.lsm_device.specs.Medium.{disk};
@@ -144,6 +170,29 @@ impl<'a> Device for MappedDevice<'a> {
     {
         let ok = !self.journal.has_write() && copy(self.image, at, out);
         self.calls.count_read(ok);
+        answer(ok)
+    }
+
+    // One copy gives them all.
+    fn read_run(&mut self, at: u32, out: &mut [u8]) -> Result<(), Fault>
+        requires whole { length out.old % 512 ≡ 0 }
+        requires some { 512 ≤ length out.old }
+        requires within { at + length out.old / 512 ≤ (medium_on self.old).size }
+        ensures bytes { OnOk result
+            (out.new ≡ concat (area at (length out.old / 512) (seen (disk (medium_on self.old))))) }
+        ensures unchanged { (medium_on self.new).history ≡ (medium_on self.old).history }
+        ensures counted { OnOk result
+            ((medium_on self.new).calls
+            ≡ after_reads (length out.old / 512) (medium_on self.old).calls) }
+        ensures faulted { OnErr result
+            (ReadFaultsAmong (length out.old / 512) (medium_on self.old).calls
+            (medium_on self.new).calls) }
+        ensures same_size { (medium_on self.new).size ≡ (medium_on self.old).size }
+        ensures same_lasting { (medium_on self.new).lasting ≡ (medium_on self.old).lasting }
+    {
+        let count = out.len() / SECTOR_BYTES;
+        let ok = !self.journal.has_write() && copy_run(self.image, at, out);
+        count_run(&mut self.calls, count, ok);
         answer(ok)
     }
 
