@@ -50,7 +50,7 @@ without_log_full other = other
 abbrev pub IsCrowdedIn : WorkView → ℕ → Type 0
 IsCrowdedIn w blocks = IsCrowded (taken_blocks w.levels) (free_count w.area) (table_count w.levels) blocks
 
--- with nothing in memory, and none that waits for a flush, a store is crowded for a batch
+-- if the memtable is empty and none waits for its flush, a store is crowded for a batch
 abbrev pub LacksRoom : List Operation → StoreView → Type 0
 LacksRoom batch s = s.work.memory ≡ [] → s.work.sealed ≡ [] → IsCrowdedIn s.work (blocks_for (sum_by bytes_of batch) (length batch))
 

@@ -66,9 +66,9 @@ impl AdmitState {
         }
     }
 
-    /// What is to be done next with a batch. It fails only where it puts values, or a snapshot keeps what it deletes, and with nothing in
-    /// memory only in a store that is crowded. As long as no log was begun and no table brought down for it, it is committed only with
-    /// room, deletes alone too.
+    /// What is to be done next with a batch. It is refused only if it puts values, or if a snapshot keeps what it deletes; and if the
+    /// memtable is empty and none waits for its flush, only by a store that is crowded. As long as no log was begun and no table brought
+    /// down for it, it is committed only with room, deletes alone too.
     pub fn next<D: Device>(&mut self, store: &Store<D>, batch: &Batch) -> Verdict
         ensures refused { result ≡ Refuse → wants_room batch.now store.now.state ≡ true }
         ensures crowded { result ≡ Refuse → LacksRoom batch.now store.now }
