@@ -189,6 +189,14 @@ impl<'a> Device for MappedDevice<'a> {
             (medium_on self.new).calls) }
         ensures same_size { (medium_on self.new).size ≡ (medium_on self.old).size }
         ensures same_lasting { (medium_on self.new).lasting ≡ (medium_on self.old).lasting }
+
+        // It answers Ok where no write was tried and the mapping has all of them.
+        ensures answers { IsTrue (is_ok result)
+            ↔ ((self.old.journal.wrote ≡ false)
+            × (512 * at + length out.old ≤ length self.old.image.now)) }
+        ensures same_journal { self.new.journal ≡ self.old.journal }
+        ensures same_bytes { self.new.bytes ≡ self.old.bytes }
+        ensures same_image { self.new.image ≡ self.old.image }
     {
         let count = out.len() / SECTOR_BYTES;
         let ok = !self.journal.has_write() && copy_run(self.image, at, out);
