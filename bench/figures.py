@@ -17,6 +17,8 @@ ROWS = (
     "get miss",
     "pages of 64",
     "whole scan",
+    "4 readers",
+    "4 clients",
     "keys in order",
 )
 OURS = "ours"
@@ -45,8 +47,8 @@ OF_STORE_BENCH: dict[str, dict[str, tuple[str, ...]]] = {
     "gets": {"get hit": ("get hit",), "get miss": ("get miss",), "pages of 64": ("scan pages",)},
     "synced": {"synced puts": ("synced puts",)},
 }
-# The rows whose waits are those of so many operations at once.
-AT_ONCE = {"batches of 100": 100, "load": 100}
+# The rows in which so many operations wait at the same time: those of a batch, or one of each thread.
+AT_ONCE = {"batches of 100": 100, "load": 100, "4 readers": 4, "4 clients": 4}
 # How often bench_store scans all keys, by pages: so its pages are a whole scan too.
 SCANS = 5
 
@@ -110,8 +112,10 @@ class Results:
 # ---- what programs print
 
 
-def of_peer(line: str) -> Sample:
-    """A line of a peer's program: operations, nanoseconds of all, three waits, and the nanoseconds of the rest."""
+def of_peer(line: str) -> Optional[Sample]:
+    """A line of a peer's program: operations, nanoseconds of all, three waits, and nanoseconds of the rest. None if it lacks the row."""
+    if line.strip() == "-":
+        return None
     operations, nanos, *waits, rest = line.split("\t")
     median, most, longest = (None if it == "-" else int(it) / 1_000 for it in waits)
     return Sample(int(operations) * 1e9 / max(int(nanos), 1), median, most, longest, int(rest) / 1_000)

@@ -196,7 +196,7 @@ def growth(results: Results) -> Optional[str]:
     sizes = results.sizes()
     picture = Picture(COLUMNS * PANEL + 30, "Microseconds an operation by number of keys")
     picture.text(20, 26, f"Microseconds an operation, from {sizes[0]:,} to {sizes[-1]:,} keys", 16, bold=True)
-    picture.text(20, 46, "Means of all operations of a row: lower is faster. Both scales are logarithmic.", 12)
+    picture.text(20, 46, "The time of a row divided by all its operations: lower is faster. Both scales are logarithmic.", 12)
     top = draw_legend(picture, results.engines(), 68)
     for place, row in enumerate(rows):
         x, y = 20 + PANEL * (place % COLUMNS), top + HEIGHT * (place // COLUMNS)

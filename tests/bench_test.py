@@ -45,10 +45,13 @@ if "1000000" in sys.argv:
     sys.exit("no room")
 print(open(os.environ["GETS"]).read())
 """
-# Stands in for the program of an engine: it does one row, and ends in the second.
+# Stands in for the program of an engine: it does one row, lacks the second, and ends in the third.
 PEER = """#!/bin/sh
-read -r row && printf '100\\t100000000\\t1000\\t2000\\t3000\\t0\\n' && read -r row
+read -r row && printf '100\\t100000000\\t1000\\t2000\\t3000\\t0\\n' && read -r row && echo - && read -r row
 """
+# What bench_store lacks, and what SQLite lacks.
+NOT_OURS = ("4 readers", "4 clients", "keys in order")
+OF_THREADS = ("4 readers", "4 clients")
 # The last one lies over the first.
 MOUNTS = """1 0 0:2 / / rw - rootfs rootfs rw
 20 1 0:5 / /dev/shm rw shared:3 - tmpfs tmpfs rw
@@ -67,9 +70,10 @@ def made(sizes: tuple[int, ...] = (20_000, 200_000, 1_000_000)) -> Results:
     for keys in sizes:
         for place, row in enumerate(ROWS):
             for number, engine in enumerate(it for it in ENGINES if it not in (OURS, FROM_C)):
-                results.figures.append(figure(row, keys, engine, 1e6 / (number + 1) / math.log10(keys)))
+                if engine != "sqlite" or row not in OF_THREADS:
+                    results.figures.append(figure(row, keys, engine, 1e6 / (number + 1) / math.log10(keys)))
             results.figures.append(figure(row, keys, FROM_C, 3e4 * 2**place / math.log10(keys)))
-            if row != "keys in order" and keys < 1_000_000:
+            if row not in NOT_OURS and keys < 1_000_000:
                 results.figures.append(figure(row, keys, OURS, 2e4 * 2**place / math.log10(keys)))
     return results
 
@@ -78,6 +82,7 @@ class Samples(unittest.TestCase):
     def test_a_peers_line(self) -> None:
         self.assertEqual(figures.of_peer("2000\t500000000\t1500\t2500\t80000\t0\n"), Sample(4000, 1.5, 2.5, 80, 0))
         self.assertEqual(figures.of_peer("10\t1000000000\t-\t-\t-\t3000\n"), Sample(10, None, None, None, 3))
+        self.assertIsNone(figures.of_peer("-\n"))
 
     def test_bench_store(self) -> None:
         found = figures.of_bench_store(UPKEEP, "upkeep", 200_000)
@@ -120,15 +125,23 @@ class Tables(unittest.TestCase):
 
     def test_what_is_missing(self) -> None:
         told = figures.missing(made())
-        self.assertEqual(told, [f"{', '.join(ROWS[:-1])} at 1,000,000", "keys in order"])
+        self.assertEqual(told, [f"{', '.join(it for it in ROWS if it not in NOT_OURS)} at 1,000,000", ", ".join(NOT_OURS)])
 
     def test_numbers(self) -> None:
         told = [figures.short(it) for it in (None, 0.0512, 9.876, 12.34, 456.7, 58_670.0, 1_234_567.0)]
         self.assertEqual(told, ["-", "0.05", "9.88", "12.3", "457", "58,700", "1,230,000"])
 
-    def test_waits_of_batches_are_those_of_a_hundred_puts(self) -> None:
+    def test_mean_waits_are_those_of_all_that_wait_at_once(self) -> None:
         sample = Sample(200_000, 1.5, None, 3000)
-        self.assertEqual([figures.waits_of(it, sample) for it in ("fill", "load")], ["5.00 / 1.50 / - / 3,000", "500 / 1.50 / - / 3,000"])
+        means = [figures.waits_of(it, sample).partition(" / 1.50 / - / 3,000")[0] for it in ("fill", "load", "4 clients", "4 readers")]
+        self.assertEqual(means, ["5.00", "500", "20.0", "20.0"])
+
+    def test_a_row_that_an_engine_lacks(self) -> None:
+        for table in (figures.rates_table(made(), 20_000), figures.waits_table(made(), 20_000)):
+            heads, *lines = ([cell.strip() for cell in line.strip("|\n").split("|")] for line in table.splitlines())
+            cells = {line[0]: dict(zip(heads, line)) for line in lines}
+            self.assertEqual([row for row in ROWS if cells[row]["SQLite"] == "-"], list(OF_THREADS))
+            self.assertEqual([row for row in ROWS if cells[row]["Corwaphi"] == "-"], list(NOT_OURS))
 
     def test_the_page(self) -> None:
         page = figures.page(made(), "made", {"made-best.svg": "Ratios"})
@@ -183,7 +196,7 @@ class Pictures(unittest.TestCase):
 
     def test_bars_and_their_line(self) -> None:
         bars = {(it.row, it.keys): it for it in pictures.bars_of(made(), None)}
-        self.assertEqual(len(bars), 2 * (len(ROWS) - 1))
+        self.assertEqual(len(bars), 2 * (len(ROWS) - len(NOT_OURS)))
         self.assertAlmostEqual(bars["fill", 20_000].ratio, 0.02)
         self.assertEqual(bars["fill", 20_000].peer, "leveldb")
         x_of = pictures.scale(0.1, 10, 0, 200)
@@ -245,6 +258,12 @@ class Runs(unittest.TestCase):
         self.assertEqual([it for it, program in programs.items() if it != program], ["leveldb-buffer", "rocksdb-buffer"])
         self.assertEqual(set(programs.values()), {FROM_C, *run.LIBRARIES})
 
+    def test_each_row_is_done_and_documented(self) -> None:
+        page = (TOP / "bench" / "README.md").read_text(encoding="utf-8").partition("## The rows")[2]
+        self.assertEqual(re.findall(r"^\| ([^|]+?) \|", page, re.MULTILINE)[: len(ROWS) + 1], ["row", *ROWS])
+        done = re.findall(r'row == "([^"]+)"', (run.PEERS / "workloads.hpp").read_text(encoding="utf-8"))
+        self.assertEqual(set(done), set(ROWS))
+
     def test_ours_is_asked_once_for_what_it_refuses(self) -> None:
         with tempfile.TemporaryDirectory() as name:
             folder = Path(name)
@@ -265,12 +284,13 @@ class Runs(unittest.TestCase):
             program = Path(folder) / "lmdb"
             program.write_text(PEER)
             program.chmod(0o755)
-            measuring = run.Measuring(Path(folder), {"lmdb": program}, None, run.words_of(["name", "--rows", "fill,overwrite,load"]))
+            words = run.words_of(["name", "--rows", "fill,overwrite,load,get hit"])
+            measuring = run.Measuring(Path(folder), {"lmdb": program}, None, words)
             with unittest.mock.patch.object(run, "tell"), unittest.mock.patch.object(run.os, "sync"):
                 measuring.run(100, 0)
             self.assertEqual(list(Path(folder).iterdir()), [program])
         self.assertEqual(measuring.samples, {("fill", 100, "lmdb"): [Sample(1000, 1, 2, 3, 0)]})
-        self.assertEqual(measuring.results({"runs": "1"}).head, {"runs": "1", "not measured": "LMDB, 100 keys: ended in overwrite"})
+        self.assertEqual(measuring.results({"runs": "1"}).head, {"runs": "1", "not measured": "LMDB, 100 keys: ended in load"})
 
     def test_results_stand_in_the_order_of_rows(self) -> None:
         measuring = run.Measuring(Path(), {"lmdb": Path()}, None, run.words_of(["name"]))

@@ -57,6 +57,8 @@ private:
 
 class Store {
 public:
+    static constexpr bool TAKES_THREADS = true;
+
     Store(const std::string& folder, std::uint32_t keys, std::size_t) {
         corwaphi_options options = options_for(keys);
         check(corwaphi_open_or_create((folder + "/store.img").c_str(), &options, &store_));
@@ -92,13 +94,14 @@ public:
 
     template <class Look>
     bool get(std::string_view key, Look look) {
+        static thread_local std::array<std::uint8_t, CORWAPHI_MOST_VALUE> value;
         std::size_t length = 0;
         std::uint32_t code =
-            corwaphi_get(store_, CORWAPHI_NOW, key.data(), key.size(), value_.data(), value_.size(), &length);
+            corwaphi_get(store_, CORWAPHI_NOW, key.data(), key.size(), value.data(), value.size(), &length);
         if (!found(code)) {
             return false;
         }
-        look(view(value_.data(), length));
+        look(view(value.data(), length));
         return true;
     }
 
@@ -141,7 +144,6 @@ private:
     corwaphi store_{};
     corwaphi_batch batch_ = CORWAPHI_BATCH;
     bool synced_ = false;
-    std::array<std::uint8_t, CORWAPHI_MOST_VALUE> value_{};
     std::array<std::uint8_t, CORWAPHI_PAGE_BYTES> page_{};
 };
 

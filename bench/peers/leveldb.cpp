@@ -20,6 +20,8 @@ void check(const leveldb::Status& status) {
 
 class Store {
 public:
+    static constexpr bool TAKES_THREADS = true;
+
     Store(const std::string& folder, std::uint32_t, std::size_t buffer) {
         leveldb::Options options;
         options.create_if_missing = true;
@@ -47,12 +49,13 @@ public:
 
     template <class Look>
     bool get(std::string_view key, Look look) {
-        leveldb::Status status = db_->Get({}, slice(key), &value_);
+        static thread_local std::string value;
+        leveldb::Status status = db_->Get({}, slice(key), &value);
         if (status.IsNotFound()) {
             return false;
         }
         check(status);
-        look(value_);
+        look(value);
         return true;
     }
 
@@ -71,7 +74,6 @@ private:
     std::unique_ptr<leveldb::DB> db_;
     leveldb::WriteOptions writing_;
     leveldb::WriteBatch batch_;
-    std::string value_;
 };
 
 } // namespace

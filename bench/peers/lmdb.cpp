@@ -3,6 +3,8 @@
 #include "program.hpp"
 
 #include <lmdb.h>
+#include <optional>
+#include <utility>
 
 namespace {
 
@@ -19,16 +21,72 @@ MDB_val val(std::string_view bytes) { return {bytes.size(), const_cast<char*>(by
 
 std::string_view view(const MDB_val& bytes) { return {static_cast<const char*>(bytes.mv_data), bytes.mv_size}; }
 
+// The transaction that a thread reads with, again for each read, until the thread or the store ends. A program has one
+// store at a time.
+class Reader {
+public:
+    Reader() = default;
+    ~Reader() { end(); }
+    Reader(const Reader&) = delete;
+    Reader& operator=(const Reader&) = delete;
+
+    MDB_txn* of(MDB_env* env) {
+        if (txn_ == nullptr) {
+            check(mdb_txn_begin(env, nullptr, MDB_RDONLY, &txn_));
+            mdb_txn_reset(txn_);
+        }
+        return txn_;
+    }
+
+    void end() {
+        if (txn_ != nullptr) {
+            mdb_txn_abort(std::exchange(txn_, nullptr));
+        }
+    }
+
+private:
+    MDB_txn* txn_ = nullptr;
+};
+
+thread_local Reader reader_of_thread;
+
 // A transaction that only reads, for as long as this lives.
 class Reading {
 public:
-    explicit Reading(MDB_txn* txn) : txn_(txn) { check(mdb_txn_renew(txn)); }
+    explicit Reading(MDB_env* env) : txn_(reader_of_thread.of(env)) { check(mdb_txn_renew(txn_)); }
     ~Reading() { mdb_txn_reset(txn_); }
     Reading(const Reading&) = delete;
     Reading& operator=(const Reading&) = delete;
 
+    MDB_txn* txn() const { return txn_; }
+
 private:
     MDB_txn* txn_;
+};
+
+// A transaction that writes. If it is not committed it is aborted, so that no other thread waits for it.
+class Writing {
+public:
+    explicit Writing(MDB_env* env) { check(mdb_txn_begin(env, nullptr, 0, &txn_)); }
+    ~Writing() {
+        if (txn_ != nullptr) {
+            mdb_txn_abort(txn_);
+        }
+    }
+    Writing(const Writing&) = delete;
+    Writing& operator=(const Writing&) = delete;
+
+    MDB_txn* txn() const { return txn_; }
+
+    void put(MDB_dbi dbi, std::string_view key, std::string_view value) {
+        MDB_val at = val(key), put = val(value);
+        check(mdb_put(txn_, dbi, &at, &put, 0));
+    }
+
+    void commit() { check(mdb_txn_commit(std::exchange(txn_, nullptr))); }
+
+private:
+    MDB_txn* txn_ = nullptr;
 };
 
 class Cursor {
@@ -53,19 +111,20 @@ private:
 
 class Store {
 public:
+    static constexpr bool TAKES_THREADS = true;
+
     Store(const std::string& folder, std::uint32_t, std::size_t) {
         check(mdb_env_create(&env_));
         check(mdb_env_set_mapsize(env_, ROOM));
         check(mdb_env_open(env_, folder.c_str(), MDB_NOSYNC, 0644));
-        begin();
-        check(mdb_dbi_open(writing_, nullptr, 0, &dbi_));
-        commit();
-        check(mdb_txn_begin(env_, nullptr, MDB_RDONLY, &reading_));
-        mdb_txn_reset(reading_);
+        Writing writing(env_);
+        check(mdb_dbi_open(writing.txn(), nullptr, 0, &dbi_));
+        writing.commit();
     }
 
     ~Store() {
-        mdb_txn_abort(reading_);
+        reader_of_thread.end();
+        batch_.reset();
         mdb_env_close(env_);
     }
 
@@ -81,25 +140,25 @@ public:
     void set_synced(bool synced) { check(mdb_env_set_flags(env_, MDB_NOSYNC, synced ? 0 : 1)); }
 
     void put(std::string_view key, std::string_view value) {
-        begin();
-        add(key, value);
-        commit();
+        Writing writing(env_);
+        writing.put(dbi_, key, value);
+        writing.commit();
     }
 
-    void begin() { check(mdb_txn_begin(env_, nullptr, 0, &writing_)); }
+    void begin() { batch_.emplace(env_); }
 
-    void add(std::string_view key, std::string_view value) {
-        MDB_val at = val(key), put = val(value);
-        check(mdb_put(writing_, dbi_, &at, &put, 0));
+    void add(std::string_view key, std::string_view value) { batch_->put(dbi_, key, value); }
+
+    void commit() {
+        batch_->commit();
+        batch_.reset();
     }
-
-    void commit() { check(mdb_txn_commit(writing_)); }
 
     template <class Look>
     bool get(std::string_view key, Look look) {
-        Reading reading(reading_);
+        Reading reading(env_);
         MDB_val at = val(key), value;
-        int status = mdb_get(reading_, dbi_, &at, &value);
+        int status = mdb_get(reading.txn(), dbi_, &at, &value);
         if (status == MDB_NOTFOUND) {
             return false;
         }
@@ -110,8 +169,8 @@ public:
 
     template <class Look>
     std::string rows(std::string_view from, std::size_t most, Look look) {
-        Reading reading(reading_);
-        Cursor cursor(reading_, dbi_);
+        Reading reading(env_);
+        Cursor cursor(reading.txn(), dbi_);
         MDB_val key = val(from), value;
         bool has_one = cursor.move(key, value, from.empty() ? MDB_FIRST : MDB_SET_RANGE);
         for (std::size_t count = 0; count < most && has_one; count++) {
@@ -124,8 +183,7 @@ public:
 private:
     MDB_env* env_ = nullptr;
     MDB_dbi dbi_ = 0;
-    MDB_txn* writing_ = nullptr;
-    MDB_txn* reading_ = nullptr;
+    std::optional<Writing> batch_;
 };
 
 } // namespace

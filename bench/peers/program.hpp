@@ -26,13 +26,17 @@ void serve(const std::string& folder, std::uint32_t keys, std::size_t buffer) {
     Workloads<Store> workloads(folder, keys, buffer);
     std::string row;
     while (std::getline(std::cin, row)) {
-        Figures figures = workloads.run(row);
-        print(figures, rest());
+        std::optional<Figures> figures = workloads.run(row);
+        if (figures) {
+            print(*figures, rest());
+        } else {
+            std::cout << '-' << std::endl;
+        }
     }
 }
 
 //     PROGRAM version                  its version, and the nanoseconds of a reading of the clock
-//     PROGRAM FOLDER KEYS [BUFFER]     a row for each line
+//     PROGRAM FOLDER KEYS [BUFFER]     a row for each line, or a sign alone where the engine doesn't have it
 template <class Store>
 int main_of(int count, char** words) {
     try {

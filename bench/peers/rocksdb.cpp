@@ -21,6 +21,8 @@ void check(const rocksdb::Status& status) {
 
 class Store {
 public:
+    static constexpr bool TAKES_THREADS = true;
+
     Store(const std::string& folder, std::uint32_t, std::size_t buffer) {
         rocksdb::Options options;
         options.create_if_missing = true;

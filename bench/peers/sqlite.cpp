@@ -9,6 +9,9 @@ namespace {
 
 class Store {
 public:
+    // A statement is used by one thread at a time.
+    static constexpr bool TAKES_THREADS = false;
+
     Store(const std::string& folder, std::uint32_t, std::size_t) {
         check(sqlite3_open((folder + "/map.db").c_str(), &db_));
         execute("PRAGMA journal_mode=WAL");

@@ -4,6 +4,7 @@
 #include <algorithm>
 #include <chrono>
 #include <cstdint>
+#include <future>
 #include <limits>
 #include <optional>
 #include <sys/resource.h>
@@ -43,19 +44,35 @@ inline Waits waits_of(std::vector<Nanos> waits) {
     return {waits[place_of(waits.size(), 50)], waits[place_of(waits.size(), 99)], waits.back()};
 }
 
-// Does an operation for each number below a count, and takes the time of all together.
+// Some operations: when the first began, when the last ended, and the wait of each, or none where they were not taken.
+struct Pass {
+    std::uint64_t operations;
+    Nanos start;
+    Nanos end;
+    std::vector<Nanos> waits;
+};
+
+inline Figures figures_of(Pass pass) {
+    Figures figures{pass.operations, pass.end - pass.start, std::nullopt};
+    if (!pass.waits.empty()) {
+        figures.waits = waits_of(std::move(pass.waits));
+    }
+    return figures;
+}
+
+// Does an operation for each number below a count, one after another.
 template <class Operation>
-Figures timed(std::uint32_t count, Operation operation) {
+Pass pass_of_all(std::uint32_t count, Operation operation) {
     Nanos start = now();
     for (std::uint32_t number = 0; number < count; number++) {
         operation(number);
     }
-    return {count, now() - start, std::nullopt};
+    return {count, start, now(), {}};
 }
 
 // The same, with the wait of each: the clock is read once an operation, which is in the time of all.
 template <class Operation>
-Figures timed_each(std::uint32_t count, Operation operation) {
+Pass pass_of_each(std::uint32_t count, Operation operation) {
     std::vector<Nanos> waits(count);
     Nanos start = now();
     Nanos before = start;
@@ -65,7 +82,50 @@ Figures timed_each(std::uint32_t count, Operation operation) {
         waits[number] = after - before;
         before = after;
     }
-    return {count, before - start, waits_of(std::move(waits))};
+    return {count, start, before, std::move(waits)};
+}
+
+// The figures of such passes.
+template <class Operation>
+Figures timed(std::uint32_t count, Operation operation) {
+    return figures_of(pass_of_all(count, operation));
+}
+
+template <class Operation>
+Figures timed_each(std::uint32_t count, Operation operation) {
+    return figures_of(pass_of_each(count, operation));
+}
+
+// Passes of threads that ran at the same time, as one: from the first start to the last end, with the waits of all.
+// What a thread has thrown is thrown here.
+inline Pass joined(std::vector<std::future<Pass>>& threads) {
+    Pass all{0, std::numeric_limits<Nanos>::max(), 0, {}};
+    for (std::future<Pass>& thread : threads) {
+        Pass pass = thread.get();
+        all.operations += pass.operations;
+        all.start = std::min(all.start, pass.start);
+        all.end = std::max(all.end, pass.end);
+        all.waits.insert(all.waits.end(), pass.waits.begin(), pass.waits.end());
+    }
+    return all;
+}
+
+// Does a pass for each number below a count, each in a thread of its own, which begin together. It returns or throws
+// once all threads have ended.
+template <class PassOf>
+Figures timed_threads(std::uint32_t count, PassOf pass_of) {
+    std::vector<std::future<Pass>> threads;
+    // Declared after them, so that it ends first: if a thread can't be made, those that wait for it end too.
+    std::promise<void> start;
+    std::shared_future<void> started = start.get_future().share();
+    for (std::uint32_t number = 0; number < count; number++) {
+        threads.push_back(std::async(std::launch::async, [started, pass_of, number] {
+            started.get();
+            return pass_of(number);
+        }));
+    }
+    start.set_value();
+    return figures_of(joined(threads));
 }
 
 // The nanoseconds that a reading of the clock takes: the least of some times, since what else the machine does is in

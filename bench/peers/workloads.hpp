@@ -8,6 +8,8 @@
 //     get(key, look)                       has `look` see the value, and tells whether there is one
 //     rows(from, most, look)               has `look` see so many keys and values, and answers the key behind them, or
 //                                          none
+//
+// and TAKES_THREADS, whether several threads may put and get at the same time.
 #pragma once
 
 #include "keys.hpp"
@@ -16,6 +18,7 @@
 #include <filesystem>
 #include <limits>
 #include <memory>
+#include <optional>
 #include <stdexcept>
 #include <string>
 
@@ -25,6 +28,7 @@ constexpr std::uint32_t SYNCED = 1'000;
 constexpr std::uint32_t BATCH = 100;
 constexpr std::size_t PAGE = 64;
 constexpr std::uint32_t SCANS = 5;
+constexpr std::uint32_t THREADS = 4;
 
 template <class Store>
 class Workloads {
@@ -36,7 +40,8 @@ public:
         }
     }
 
-    Figures run(const std::string& row) {
+    // Does a row, and answers nothing where the engine doesn't have it.
+    std::optional<Figures> run(const std::string& row) {
         if (row == "fill") {
             renew();
             return put_singly(key_of);
@@ -46,13 +51,23 @@ public:
             return put_batches();
         }
         if (row == "keys in order") {
-            renew();
-            Figures figures = put_singly(ordered_key_of);
-            check(find_all(ordered_key_of).operations == keys_);
-            round_ = 0;
-            return figures;
+            return put_in_order();
+        }
+        if (row == "4 readers" || row == "4 clients") {
+            return run_threads(row);
         }
         ensure_filled();
+        return run_filled(row);
+    }
+
+private:
+    static void check(bool is_right) {
+        if (!is_right) {
+            throw std::runtime_error("wrong answers");
+        }
+    }
+
+    Figures run_filled(const std::string& row) {
         if (row == "overwrite") {
             return put_singly(key_of);
         }
@@ -78,11 +93,16 @@ public:
         throw std::runtime_error("no such row: " + row);
     }
 
-private:
-    static void check(bool is_right) {
-        if (!is_right) {
-            throw std::runtime_error("wrong answers");
+    std::optional<Figures> run_threads([[maybe_unused]] const std::string& row) {
+        if constexpr (Store::TAKES_THREADS) {
+            ensure_filled();
+            if (row == "4 clients") {
+                return put_by_threads();
+            }
+            open_again();
+            return with_waits([this](bool each) { return find_by_threads(each); });
         }
+        return std::nullopt;
     }
 
     // Closes the store and opens it again, so that nothing is in its own caches.
@@ -116,6 +136,28 @@ private:
             Key key = key_of_number(number);
             store_->put(view(key), view(value_of(key, round)));
         });
+    }
+
+    Figures put_in_order() {
+        renew();
+        Figures figures = put_singly(ordered_key_of);
+        check(find_all(ordered_key_of).operations == keys_);
+        round_ = 0;
+        return figures;
+    }
+
+    // Puts all keys again, every fourth one by the same thread.
+    Figures put_by_threads() {
+        static_assert(BATCH % THREADS == 0, "each thread has as many keys");
+        std::uint8_t round = ++round_;
+        Figures figures = timed_threads(THREADS, [this, round](std::uint32_t thread) {
+            return pass_of_each(keys_ / THREADS, [this, round, thread](std::uint32_t place) {
+                Key key = key_of(THREADS * place + thread);
+                store_->put(view(key), view(value_of(key, round)));
+            });
+        });
+        check(find_all(key_of).operations == keys_);
+        return figures;
     }
 
     // An operation is a put. A wait is that of a batch.
@@ -165,6 +207,15 @@ private:
     template <class KeyOf>
     Figures find_each(KeyOf key_of_number) {
         return timed_each(keys_, [&](std::uint32_t place) { find(place, key_of_number); });
+    }
+
+    // Each thread gets all keys, in the order of one thread alone, and begins a quarter further on than the one before.
+    Figures find_by_threads(bool each) {
+        return timed_threads(THREADS, [this, each](std::uint32_t thread) {
+            std::uint32_t first = keys_ / THREADS * thread;
+            auto find_one = [this, first](std::uint32_t place) { find((first + place) % keys_, key_of); };
+            return each ? pass_of_each(keys_, find_one) : pass_of_all(keys_, find_one);
+        });
     }
 
     Figures miss_all(bool each) {
