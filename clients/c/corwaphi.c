@@ -179,8 +179,10 @@ static void readied_for_write(struct slot *slot)
 /* Continues the compactions that are due, before a write of `bytes` bytes. */
 static void went_on(struct slot *slot, size_t bytes)
 {
-    for (size_t left = PIECES * (1 + bytes / PIECES_FOR); slot->due && left; left--)
+    for (size_t pieces = PIECES * (1 + bytes / PIECES_FOR); slot->due && pieces; pieces--) {
         slot->due = piece_done(slot) != CORWAPHI_STORE_NOTHING;
+        let_others(slot);
+    }
 }
 
 /* What is to be written: a put, a delete, a batch, or a batch under guards. */
@@ -392,7 +394,9 @@ uint32_t corwaphi_create(const char *path, const struct corwaphi_options *option
     if (!slot)
         return CORWAPHI_TOO_MANY_STORES;
     uint32_t answer = corwaphi_file_create(&slot->file, path, options ? options : &usual);
+    called(slot);
     given_back(slot);
+    left(slot, false);
     return answer;
 }
 
