@@ -11,8 +11,14 @@
 #include <time.h>
 #include <unistd.h>
 
+/* A mutex, and how many have waited for it so long that the others let them go first. */
+struct gate {
+    pthread_mutex_t mutex;
+    atomic_uint impatient;
+};
+
 struct slot {
-    pthread_mutex_t writing, calling;
+    struct gate writing, calling;
     atomic_uint waiting; /* how many wait for `calling` */
     bool taken;          /* whether a store is in it, or is about to be */
     bool due;            /* whether compactions are left to the next writes */
@@ -42,8 +48,8 @@ static void in_child(void)
         if (slot->file.descriptor >= 0)
             close(slot->file.descriptor);
         memcpy(slot, &fresh, sizeof fresh);
-        pthread_mutex_init(&slot->writing, NULL);
-        pthread_mutex_init(&slot->calling, NULL);
+        pthread_mutex_init(&slot->writing.mutex, NULL);
+        pthread_mutex_init(&slot->calling.mutex, NULL);
     }
     pthread_mutex_unlock(&corwaphi_table);
 }
@@ -52,8 +58,8 @@ static void begin(void)
 {
     for (size_t place = 0; place < CORWAPHI_MOST_STORES; place++) {
         slots[place].file.descriptor = -1;
-        pthread_mutex_init(&slots[place].writing, NULL);
-        pthread_mutex_init(&slots[place].calling, NULL);
+        pthread_mutex_init(&slots[place].writing.mutex, NULL);
+        pthread_mutex_init(&slots[place].calling.mutex, NULL);
     }
     pthread_atfork(before_fork, in_parent, in_child);
 }
@@ -87,21 +93,45 @@ static void given_back(struct slot *slot)
     errno = error;
 }
 
+/* A thread that has tried so often in vain to take a mutex is impatient. By then it has waited for one to two milliseconds. */
+#define PATIENCE 16
+
+/* Takes the mutex, if nobody has it and no other thread is impatient. */
+static bool took(struct gate *gate)
+{
+    return !atomic_load(&gate->impatient) && !pthread_mutex_trylock(&gate->mutex);
+}
+
+/* Takes the mutex. Most calls take microseconds, and to wake a thread after each would take longer: so a thread that finds the mutex taken
+ * tries again after pauses, and the one that has it goes on for some calls. An impatient thread waits to be woken, and all others let it
+ * go first. */
+static void taken(struct gate *gate)
+{
+    for (int tries = 0; tries < PATIENCE; tries++) {
+        if (took(gate))
+            return;
+        nanosleep(&(struct timespec){0, 1000L << (tries < 6 ? tries : 6)}, NULL);
+    }
+    atomic_fetch_add(&gate->impatient, 1);
+    pthread_mutex_lock(&gate->mutex);
+    atomic_fetch_sub(&gate->impatient, 1);
+}
+
 /* Waits for the right to call the store of a slot. */
 static void called(struct slot *slot)
 {
-    if (!pthread_mutex_trylock(&slot->calling))
+    if (took(&slot->calling))
         return;
     atomic_fetch_add(&slot->waiting, 1);
-    pthread_mutex_lock(&slot->calling);
+    taken(&slot->calling);
     atomic_fetch_sub(&slot->waiting, 1);
 }
 
 static void left(struct slot *slot, bool writes)
 {
-    pthread_mutex_unlock(&slot->calling);
+    pthread_mutex_unlock(&slot->calling.mutex);
     if (writes)
-        pthread_mutex_unlock(&slot->writing);
+        pthread_mutex_unlock(&slot->writing.mutex);
 }
 
 /* Finds the slot of a store, and waits for the right to call it; if it writes, first for the right to write. */
@@ -110,7 +140,7 @@ static uint32_t entered(corwaphi store, bool writes, struct slot **found)
     struct slot *slot = &slots[store.number % CORWAPHI_MOST_STORES];
     pthread_once(&once, begin);
     if (writes)
-        pthread_mutex_lock(&slot->writing);
+        taken(&slot->writing);
     called(slot);
     *found = slot;
     if (store.number && slot->number == store.number)
