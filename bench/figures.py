@@ -103,9 +103,14 @@ class Results:
         rates = {it: rate for it in PEERS if (rate := self.rate(row, keys, it))}
         return max(rates, key=lambda it: rates[it]) if rates else None
 
+    def ours(self) -> str:
+        """What our rates in ratios are those of: of bench_store, or where that isn't measured of the library for C."""
+        engines = self.engines()
+        return FROM_C if OURS not in engines and FROM_C in engines else OURS
+
     def ratio(self, row: str, keys: int, peer: Optional[str]) -> Optional[float]:
         """Our rate by that of a peer."""
-        ours, theirs = self.rate(row, keys, OURS), self.rate(row, keys, peer) if peer else None
+        ours, theirs = self.rate(row, keys, self.ours()), self.rate(row, keys, peer) if peer else None
         return ours / theirs if ours and theirs else None
 
 
@@ -289,7 +294,7 @@ def missing(results: Results) -> list[str]:
     rows: dict[str, list[str]] = {}
     for row in ROWS:
         beside = [it for it in results.sizes() if results.best(row, it)]
-        sizes = [it for it in beside if not results.rate(row, it, OURS)]
+        sizes = [it for it in beside if not results.rate(row, it, results.ours())]
         if sizes:
             where = "" if sizes == beside else f" at {' and '.join(f'{it:,}' for it in sizes)}"
             rows.setdefault(where, []).append(row)

@@ -145,7 +145,7 @@ def ratios(results: Results, peer: Optional[str] = None) -> Optional[str]:
         return None
     whose = f"{ENGINES[peer]}’s" if peer else "the best peer’s"
     picture = Picture(760, f"Our operations a second by {whose}")
-    picture.text(20, 26, f"{ENGINES[OURS]}: operations a second by {whose}", 16, bold=True)
+    picture.text(20, 26, f"{ENGINES[results.ours()]}: operations a second by {whose}", 16, bold=True)
     picture.text(20, 46, "The line is 1.0: a bar to its right is ahead, one to its left behind. The scale is logarithmic.", 12)
     low = min(0.1, min(it.ratio for it in bars) / 1.8)
     high = max(10.0, max(it.ratio for it in bars) * 1.8)

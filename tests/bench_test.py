@@ -114,6 +114,12 @@ class Tables(unittest.TestCase):
         self.assertEqual(results.ratio("fill", 100, "leveldb"), 3)
         self.assertEqual(results.ratio("fill", 100, results.best("fill", 100)), 0.75)
         self.assertIsNone(results.ratio("fill", 100, "sqlite"))
+
+    def test_ratios_from_c(self) -> None:
+        results = Results(figures=[figure("fill", 100, it, rate) for it, rate in ((FROM_C, 30), ("leveldb", 10))])
+        self.assertEqual(results.ratio("fill", 100, "leveldb"), 3)
+        self.assertEqual(figures.missing(results), [])
+        self.assertIn("from C", pictures.ratios(results) or "")
         self.assertIsNone(results.best("fill", 200))
 
     def test_the_library_for_c_stands_beside_ours_and_is_no_peer(self) -> None:
