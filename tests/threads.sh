@@ -40,14 +40,14 @@ for parts in 1 2 3 4 5 6 7 8; do
 done
 
 # A storm of one client, which rotates once: its worker flushes that, and builds the result in four parts. Where the client has to wait
-# for a processor, the worker may take all of its turns before that, and the storm is tried again.
+# for a processor, the worker may take all of its turns before that, and the storm is tried again: on a busy machine one in ten shows it.
 storm() {
     strace -f -qq -o trace -e trace=clone,clone3 "$program" storm 1 100 "$1" >out 2>err || fail "it ends with $?: $(cat err)"
     grep -Ec 'clone3?\(' trace || true
 }
 what='a storm'
 without=$(storm 0)
-for ((try = 1; try <= 20; try++)); do
+for ((try = 1; try <= 300; try++)); do
     more=$(($(storm 1) - without))
     [ "$more" -eq 1 ] || break
 done
