@@ -1,5 +1,6 @@
 """Tests of crates.txt: each crate has a line in a group, below those of the crates that it uses, and is on the page of the architecture."""
 
+import re
 import unittest
 from pathlib import Path
 
@@ -32,6 +33,13 @@ class CratesTest(unittest.TestCase):
             later = [it for it in libraries if it in rows() and it not in before]
             self.assertEqual(later, [], f"{crate} uses crates of lines below its own")
             before.add(crate)
+
+    def test_listed_libraries_are_named(self) -> None:
+        for crate, libraries in rows().items():
+            folder = TOP / "crates" / crate
+            files = [path for part in ("src", "specs", "proofs", "tests") for path in (folder / part).rglob("*") if path.is_file()]
+            words = set(re.findall(r"\w+", "\n".join(path.read_text() for path in files)))
+            self.assertEqual([it for it in libraries if it not in words], [], f"{crate} names none of these")
 
     def test_architecture_has_each_crate(self) -> None:
         page = (TOP / "docs" / "architecture.md").read_text()

@@ -113,21 +113,6 @@ fn copy(image: &[u8], at: u32, out: &mut [u8; 512]) -> bool
     copy_run(image, at, out)
 }
 
-// Counts the reads that a call made: so many that answered Ok, or one that faulted.
-fn count_run(calls: &mut Calls, count: usize, ok: bool)
-    requires { 1 ≤ count }
-    ensures counted { IsTrue ok → calls.new ≡ after_reads count calls.old }
-    ensures faulted { IsFalse ok → ReadFaultsAmong count calls.old calls.new }
-{
-    if !ok {
-        calls.count_read(false);
-        return;
-    }
-    for done in 0..count {
-        calls.count_read(true);
-    }
-}
-
 impl<'a> Device for MappedDevice<'a> {
     ghost use Rattle.std.specs.Prelude.{◌≡◌, ◌↔◌, ◌<◌, ◌≤◌, ◌⊎◌, ◌+◌, ◌*◌, ◌/◌, ◌%◌, false, true, length, IsTrue, OnOk, OnErr, is_ok, slice_get, Some};
     ghost use Rattle.std.specs.List.{concat};
@@ -200,7 +185,7 @@ impl<'a> Device for MappedDevice<'a> {
     {
         let count = out.len() / SECTOR_BYTES;
         let ok = !self.journal.has_write() && copy_run(self.image, at, out);
-        count_run(&mut self.calls, count, ok);
+        self.calls.count_read_run(count, ok);
         answer(ok)
     }
 

@@ -15,10 +15,17 @@ const PARTS: [u64; 3] = [8, 2, 1];
 /// But each is at least this number of blocks.
 const LEAST_LIMIT: u64 = 16;
 
+/// The runs of level 0 from which on they go down where they have at least [`LARGE_PART`] of the blocks of level 1.
+const FEW_RUNS: usize = 3;
+
+/// See [`FEW_RUNS`].
+const LARGE_PART: u64 = 4;
+
 /// The numbers by which merges are chosen. [`Policy::new`] has good ones.
 #[derive(Clone, Copy, Debug)]
 pub struct Policy {
-    /// From this number of runs on the runs of level 0 are merged down, as many at once as take in no more blocks than are free. A
+    /// From this number of runs on the runs of level 0 are merged down, as many at once as take in no more blocks than are free; from
+    /// three on if they have a quarter of the blocks of level 1, so that small runs wait until level 1 is worth being written anew. A
     /// higher number writes less, and leaves more places for a look-up or a scan to ask. From four runs on the store's `job_take` takes
     /// the oldest alone, so a caller that uses it too sets fewer.
     pub runs: usize,
@@ -46,7 +53,7 @@ impl Default for Policy {
 }
 
 impl Policy {
-    /// Three runs; limits of 448, 2,800 and 16,384 blocks; 1,024 blocks; 768 tables; two blocks for each that is free.
+    /// Eight runs; limits of 448, 2,800 and 8,192 blocks; 1,024 blocks; 768 tables; two blocks for each that is free.
     ///
     /// The store's `job_take` has rules of its own, by which smaller levels go down: from 256 and 2,048 blocks on. So a caller that uses
     /// both merges more than by one of them.
@@ -55,8 +62,8 @@ impl Policy {
         ensures room { result.taken_for_each_free ≡ 2 }
     {
         Policy {
-            runs: 3,
-            limits: [448, 2_800, 16_384],
+            runs: 8,
+            limits: [448, 2_800, 8_192],
             most_blocks: 1_024,
             most_tables: 768,
             taken_for_each_free: 2,
@@ -87,7 +94,7 @@ impl Policy {
     /// The merge to choose next, with `free_blocks` blocks free and the slots held by these jobs: the first of these that exists,
     /// may be taken, and takes in no more blocks than are free.
     ///
-    /// 1. From [`runs`](Policy::runs) on all runs of level 0; or the most of the oldest ones that take in no more blocks than are
+    /// 1. From [`runs`](Policy::runs) on, or from three on if they are large, all runs of level 0; or the most of the oldest ones that take in no more blocks than are
     ///    free, nor, if they are several, than [`most_blocks`](Policy::most_blocks).
     /// 2. Of the least level from 1 to 3 that is over its limit: the neighbours that go down for the fewest blocks of the next level
     ///    a block of their own. If room is scarce those with the oldest table. Of equal ones the widest. Several tables go only where
@@ -123,7 +130,7 @@ impl Policy {
         bounds: Bounds,
         held: &H,
     ) -> Option<Choice> {
-        if let Some(choice) = runs_of(levels, self.runs, bounds, held) {
+        if let Some(choice) = runs_of(levels, self.least_runs(levels), bounds, held) {
             return Some(choice);
         }
         let area = area_of(levels, bounds.room);
@@ -142,6 +149,18 @@ impl Policy {
         }
         let limit_3 = limit_3.min(part_of(area, part_3));
         tables_of(level_3, level_4, limit_3, bounds, held)
+    }
+
+    /// From how many runs on those of level 0 go down.
+    fn least_runs<A: Allocator>(&self, levels: &Levels<A>) -> usize {
+        let level_1 = match levels.deeper().first() {
+            Some(run) => blocks_of(run.tables()),
+            None => 0,
+        };
+        if blocks_of_runs(levels.runs()) >= level_1 / LARGE_PART {
+            return self.runs.min(FEW_RUNS);
+        }
+        self.runs
     }
 }
 
