@@ -9,10 +9,10 @@ use Rattle.lsm_serve.specs.Mistakes.{mistake_text, shown}
 use Rattle.lsm_serve.specs.Reading.{most_bytes}
 use Rattle.lsm_serve.specs.Tagging.{rest_of}
 use Rattle.lsm_serve.specs.declared.expected.Expected.{Expected}
-use Rattle.lsm_serve.specs.declared.asking.Wrong.{Wrong}
-use Rattle.lsm_serve.specs.declared.asking.Wrong.TheVariants.{TooLong, Unreadable, NoCall}
-use Rattle.lsm_serve.specs.declared.asking.Asked.{Asked}
-use Rattle.lsm_serve.specs.declared.asking.Asked.TheVariants as asked
+use Rattle.lsm_serve.specs.declared.command.Wrong.{Wrong}
+use Rattle.lsm_serve.specs.declared.command.Wrong.TheVariants.{TooLong, Unreadable, NoCall}
+use Rattle.lsm_serve.specs.declared.command.Command.{Command}
+use Rattle.lsm_serve.specs.declared.command.Command.TheVariants as command
 
 -- what is wrong with a line: it is too long, it can't be read, or it is no call
 pub data Flaw : Type 0 where
@@ -69,17 +69,17 @@ flaw_of TooLong = too_long
 flaw_of (Unreadable mistake) = unreadable
 flaw_of NoCall = no_call
 
-abbrev pub asked_by : Asked → Meaning
-asked_by (asked.Call given) = asks_call (call_of given)
-asked_by (asked.NoBatch refusal) = asks_no_batch refusal
-asked_by asked.Numbers = asks_numbers
-asked_by asked.Compaction = asks_compaction
-asked_by (asked.Nothing wrong) = asks_nothing (flaw_of wrong)
+abbrev pub asked_by : Command → Meaning
+asked_by (command.Call given) = asks_call (call_of given)
+asked_by (command.NoBatch refusal) = asks_no_batch refusal
+asked_by command.Numbers = asks_numbers
+asked_by command.Compaction = asks_compaction
+asked_by (command.Nothing wrong) = asks_nothing (flaw_of wrong)
 
 -- what is wrong is said
 abbrev pub IsSayable : Wrong → Type 0
 IsSayable wrong = Says (flaw_of wrong) (wrong_text wrong)
 
-abbrev pub IsAskable : Asked → Type 0
-IsAskable (asked.Nothing wrong) = IsSayable wrong
+abbrev pub IsAskable : Command → Type 0
+IsAskable (command.Nothing wrong) = IsSayable wrong
 IsAskable other = Unit {0}

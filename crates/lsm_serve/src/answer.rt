@@ -8,7 +8,7 @@ ghost use Rattle.lsm_language.specs.Replies.{reply_line};
 ghost use Rattle.lsm_serve.specs.Mistakes.{mistake_text};
 ghost use Rattle.lsm_serve.specs.Answering.{IsTellable, lack_line, outcome_of, outcome_text, usage_line, wanted_in};
 
-use crate::asking::Wrong;
+use crate::command::Wrong;
 use crate::mistake::Mistake;
 use lsm_device::Refusal;
 use lsm_language::{Counted, push_reply, stat_text};

@@ -7,7 +7,7 @@ ghost use Rattle.lsm_store.specs.Backing.{machine_of};
 ghost use Rattle.lsm_store.specs.Stats.{stat_answer};
 
 use crate::answer::Answer;
-use crate::asking::{Asked, read_asked};
+use crate::command::{Command, read_command};
 use crate::committing::make;
 use lsm_device::{Device, Refusal};
 use lsm_language::{Counted, counted_in};
@@ -27,8 +27,8 @@ pub(crate) fn answer_line<D: Device>(
     ensures answers { AnswersUntagged store.old line.now (outcome_of result) store.new }
     ensures tellable { IsTellable result }
 {
-    match read_asked(alloc, line) {
-        Ok(asked) => answer(alloc, store, upkeep, asked),
+    match read_command(alloc, line) {
+        Ok(command) => answer(alloc, store, upkeep, command),
         Err(_) => refused(Refusal::NoMemory),
     }
 }
@@ -38,18 +38,18 @@ fn answer<D: Device>(
     alloc: Global,
     store: &mut Store<D>,
     upkeep: &mut Upkeep,
-    asked: Asked,
+    command: Command,
 ) -> Answer
-    requires { IsAskable asked }
-    ensures answers { Answers (asked_by asked) store.old (outcome_of result) store.new }
+    requires { IsAskable command }
+    ensures answers { Answers (asked_by command) store.old (outcome_of result) store.new }
     ensures tellable { IsTellable result }
 {
-    match asked {
-        Asked::Call(call) => Answer::Told(counted_in(&call), make(alloc, store, upkeep, &call)),
-        Asked::NoBatch(refusal) => refused(refusal),
-        Asked::Numbers => numbers(store),
-        Asked::Compaction => compact(alloc, store, upkeep),
-        Asked::Nothing(wrong) => Answer::Usage(wrong),
+    match command {
+        Command::Call(call) => Answer::Told(counted_in(&call), make(alloc, store, upkeep, &call)),
+        Command::NoBatch(refusal) => refused(refusal),
+        Command::Numbers => numbers(store),
+        Command::Compaction => compact(alloc, store, upkeep),
+        Command::Nothing(wrong) => Answer::Usage(wrong),
     }
 }
 

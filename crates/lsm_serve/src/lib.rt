@@ -8,7 +8,7 @@
 
 mod answer;
 mod answering;
-mod asking;
+mod command;
 mod committing;
 mod expected;
 mod finding;
@@ -19,7 +19,7 @@ mod serving;
 mod tagging;
 
 pub use answer::Answer;
-pub use asking::Wrong;
+pub use command::Wrong;
 pub use expected::Expected;
 pub use mistake::Mistake;
 pub use serving::serve;

@@ -1,5 +1,5 @@
 use Rattle.lsm_serve.proofs.AskingLaws.{asks_no_text, asks_text, sayable}
-use Rattle.lsm_serve.proofs.asking.read_asked.Goals as goal
+use Rattle.lsm_serve.proofs.command.read_command.Goals as goal
 
 pub returns-in-Ok-clause-asks : goal.returns-in-Ok-clause-asks
 returns-in-Ok-clause-asks c = asks_text c.args.line.now c.part_line.result.1.now _ _ c.if-line-gt-MOST_BYTES.false c.part_line.ensures.rest c.in-Ok.ensures.cases.1 c.in-Ok.ensures.cases.0 c.read_text.ensures.asks

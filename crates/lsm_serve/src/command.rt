@@ -25,7 +25,7 @@ pub enum Wrong {
 
 /// What a line asks for.
 #[derive(Drop)]
-pub enum Asked {
+pub enum Command {
     /// A call.
     Call(Call),
     /// A commit whose guards or operations can't be formed: no call is made, and this refusal is the reply.
@@ -39,59 +39,59 @@ pub enum Asked {
 }
 
 /// Reads what a line asks for, after its tag.
-pub(crate) fn read_asked(alloc: Global, line: &[u8]) -> Result<Asked, AllocError>
-    ensures asks { IfOk result (λ asked. asked_by asked ≡ meaning_of line.now) }
+pub(crate) fn read_command(alloc: Global, line: &[u8]) -> Result<Command, AllocError>
+    ensures asks { IfOk result (λ command. asked_by command ≡ meaning_of line.now) }
     ensures askable { IfOk result IsAskable }
 {
     if line.len() > MOST_BYTES {
-        return Ok(Asked::Nothing(Wrong::TooLong));
+        return Ok(Command::Nothing(Wrong::TooLong));
     }
     let (_, rest) = part_line(line);
     match str::from_utf8(rest) {
         Ok(text) => read_text(alloc, text),
         Err(_) => {
             let mistake = Mistake::no_text(alloc, rest)?;
-            Ok(Asked::Nothing(Wrong::Unreadable(mistake)))
+            Ok(Command::Nothing(Wrong::Unreadable(mistake)))
         }
     }
 }
 
-fn read_text(alloc: Global, text: &str) -> Result<Asked, AllocError>
-    ensures asks { IfOk result (λ asked. asked_by asked ≡ meaning_in text.now) }
+fn read_text(alloc: Global, text: &str) -> Result<Command, AllocError>
+    ensures asks { IfOk result (λ command. asked_by command ≡ meaning_in text.now) }
     ensures askable { IfOk result IsAskable }
 {
     match text {
-        "stat" => Ok(Asked::Numbers),
-        "compact" => Ok(Asked::Compaction),
+        "stat" => Ok(Command::Numbers),
+        "compact" => Ok(Command::Compaction),
         _ => read_said(alloc, text),
     }
 }
 
 // Reads what a line of a script asks for.
-fn read_said(alloc: Global, text: &str) -> Result<Asked, AllocError>
-    ensures asks { IfOk result (λ asked. asked_by asked ≡ meaning_read (line_said text.now)) }
+fn read_said(alloc: Global, text: &str) -> Result<Command, AllocError>
+    ensures asks { IfOk result (λ command. asked_by command ≡ meaning_read (line_said text.now)) }
     ensures askable { IfOk result IsAskable }
 {
     match read_line(alloc, text) {
-        Ok(line) => Ok(asked_in(line)),
+        Ok(line) => Ok(command_in(line)),
         Err(Unread::Malformed) => {
             let mistake = mistake_in(alloc, text)?;
-            Ok(Asked::Nothing(Wrong::Unreadable(mistake)))
+            Ok(Command::Nothing(Wrong::Unreadable(mistake)))
         }
         Err(Unread::NoMemory) => Err(AllocError),
     }
 }
 
 // What a line of a script asks for.
-fn asked_in(line: Line) -> Asked
+fn command_in(line: Line) -> Command
     ensures asks { asked_by result ≡ meaning_said (means line) }
     ensures askable { IsAskable result }
 {
     match line {
         Line::Call(Call::Rotate) | Line::Work(_) | Line::Fuse(_) | Line::Crash(_) => {
-            Asked::Nothing(Wrong::NoCall)
+            Command::Nothing(Wrong::NoCall)
         }
-        Line::Call(call) => Asked::Call(call),
-        Line::NoBatch(refusal) => Asked::NoBatch(refusal),
+        Line::Call(call) => Command::Call(call),
+        Line::NoBatch(refusal) => Command::NoBatch(refusal),
     }
 }
