@@ -8,10 +8,10 @@ ghost use Rattle.lsm_language.specs.Reading.{PassesBy, TakesText};
 ghost use Rattle.lsm_language.specs.Requests.{wants_script};
 ghost use Rattle.lsm_language.specs.Scripts.{read_within, room_behind};
 
-use crate::asked::Asked;
 use crate::fault::Fault;
 use crate::number::parse_number;
 use crate::reading::unread;
+use crate::subcommand::Subcommand;
 use lsm_device::Refusal;
 use std::alloc::Global;
 use std::io::{BufRead, BufReader, ErrorKind, Read};
@@ -26,19 +26,19 @@ const MOST_READ: usize = 300_001;
 /// more than a line may have. Else it is left as it is.
 pub fn script_text<I: Read>(
     alloc: Global,
-    asked: &Asked<'_>,
+    subcommand: &Subcommand<'_>,
     input: &mut I,
 ) -> Result<Vec<u8>, Fault>
     ensures whole { IfOk result
-        (λ text. IsTrue (wants_script asked.now)
+        (λ text. IsTrue (wants_script subcommand.now)
         → IfSome (I.remaining input.old) (λ all. text.items ≡ read_within 300001 all)) }
-    ensures untouched { wants_script asked.now ≡ false → input.new ≡ input.old }
+    ensures untouched { wants_script subcommand.now ≡ false → input.new ≡ input.old }
     ensures fails { IfErr result
         (λ e. (reason_of e ≡ refusal NoMemory)
-        ⊎ ((reason_of e ≡ unread) × IsTrue (wants_script asked.now))) }
+        ⊎ ((reason_of e ≡ unread) × IsTrue (wants_script subcommand.now))) }
 {
     let mut text = Vec::new(alloc);
-    if !wants_script(asked) {
+    if !wants_script(subcommand) {
         return Ok(text);
     }
     let mut lines = buffered(alloc, input)?;
@@ -128,12 +128,12 @@ fn room_behind(room: usize, byte: u8) -> usize
     room.saturating_sub(1)
 }
 
-fn wants_script(asked: &Asked<'_>) -> bool
-    ensures { result ≡ wants_script asked.now }
+fn wants_script(subcommand: &Subcommand<'_>) -> bool
+    ensures { result ≡ wants_script subcommand.now }
 {
-    match asked {
-        Asked::Replay { .. } => true,
-        Asked::Lives { sectors, log } | Asked::Explore { sectors, log } => {
+    match subcommand {
+        Subcommand::Replay { .. } => true,
+        Subcommand::Lives { sectors, log } | Subcommand::Explore { sectors, log } => {
             parse_number(sectors).is_some() && parse_number(log).is_some()
         }
         _ => false,

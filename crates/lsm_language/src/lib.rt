@@ -1,7 +1,6 @@
 //! What is asked of a store in words and scripts, and what it replies as lines of text.
 #![tactic(auto)]
 
-mod asked;
 mod cause;
 mod counted;
 mod failure;
@@ -21,9 +20,9 @@ mod request;
 mod row;
 mod script;
 mod showing;
+mod subcommand;
 mod words;
 
-pub use asked::Asked;
 pub use cause::{Cause, cause_text};
 pub use counted::{Counted, counted_in};
 pub use failure::{Failure, failure_text};
@@ -38,4 +37,5 @@ pub use reply::{push_next, push_number, push_refusal, push_reply, stat_text};
 pub use request::Request;
 pub use row::{MOST_ROW, read_row};
 pub use showing::{beginning, shown};
+pub use subcommand::Subcommand;
 pub use words::{Unread, after};

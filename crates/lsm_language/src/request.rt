@@ -11,7 +11,6 @@ ghost use Rattle.lsm_language.specs.Lines.{means};
 ghost use Rattle.lsm_language.specs.Requests.{bytes_in, limits_reason, load_reason, number_in, old_in, old_said, or_else, page_reason, put_if_refusal, said_reason};
 ghost use Rattle.lsm_language.specs.Scripts.{script_said};
 
-use crate::asked::Asked;
 use crate::fault::{Fault, Usage};
 use crate::geometry::Geometry;
 use crate::guards::guard;
@@ -20,6 +19,7 @@ use crate::line::Line;
 use crate::load::Load;
 use crate::number::parse_number;
 use crate::script::{Kind, read_script};
+use crate::subcommand::Subcommand;
 use lsm_codec::{Batch, Guard, Op, unword};
 use lsm_device::Refusal;
 use std::alloc::Global;
@@ -113,22 +113,26 @@ impl<'a> Request<'a> {
     ghost use Rattle.lsm_language.specs.Requests.{reason_for, Says};
 
     /// Reads numbers and bytes from the left, then the text of the script, then tests the limits, then forms guards and batch.
-    pub fn read(alloc: Global, asked: Asked<'a>, text: &[u8]) -> Result<Request<'a>, Fault>
+    pub fn read(
+        alloc: Global,
+        subcommand: Subcommand<'a>,
+        text: &[u8],
+    ) -> Result<Request<'a>, Fault>
         ensures { MatchResult result
-            (λ r. (reason_for asked.entry text.now ≡ None) × Says asked.entry text.now r)
-            (λ e. (reason_for asked.entry text.now ≡ Some (reason_of e))
+            (λ r. (reason_for subcommand.entry text.now ≡ None) × Says subcommand.entry text.now r)
+            (λ e. (reason_for subcommand.entry text.now ≡ Some (reason_of e))
             ⊎ (reason_of e ≡ refusal NoMemory)) }
     {
-        match asked {
-            Asked::Format { file, sectors, log } => {
+        match subcommand {
+            Subcommand::Format { file, sectors, log } => {
                 let geometry = geometry_in(alloc, sectors, log)?;
                 Ok(Request::Format { file, geometry })
             }
-            Asked::Put { file, key, value } => {
+            Subcommand::Put { file, key, value } => {
                 let batch = put_in(alloc, key, value)?;
                 Ok(Request::Put { file, batch })
             }
-            Asked::PutIf {
+            Subcommand::PutIf {
                 file,
                 key,
                 old,
@@ -141,38 +145,38 @@ impl<'a> Request<'a> {
                     batch,
                 })
             }
-            Asked::Delete { file, key } => {
+            Subcommand::Delete { file, key } => {
                 let batch = delete_in(alloc, key)?;
                 Ok(Request::Delete { file, batch })
             }
-            Asked::Get { file, key } => {
+            Subcommand::Get { file, key } => {
                 let key = bytes(alloc, key, "KEY")?;
                 Ok(Request::Get { file, key })
             }
-            Asked::Scan { file, from, limit } => {
+            Subcommand::Scan { file, from, limit } => {
                 let from = bytes(alloc, from, "FROM")?;
                 let limit = limit_in(alloc, limit)?;
                 Ok(Request::Scan { file, from, limit })
             }
-            Asked::Stat { file } => Ok(Request::Stat { file }),
-            Asked::Check { file } => Ok(Request::Check { file }),
-            Asked::Compact { file } => Ok(Request::Compact { file }),
-            Asked::Dump { file } => Ok(Request::Dump { file }),
-            Asked::Load { file } => Ok(Request::Load { file }),
-            Asked::Serve { file } => Ok(Request::Serve { file }),
-            Asked::Replay { file } => {
+            Subcommand::Stat { file } => Ok(Request::Stat { file }),
+            Subcommand::Check { file } => Ok(Request::Check { file }),
+            Subcommand::Compact { file } => Ok(Request::Compact { file }),
+            Subcommand::Dump { file } => Ok(Request::Dump { file }),
+            Subcommand::Load { file } => Ok(Request::Load { file }),
+            Subcommand::Serve { file } => Ok(Request::Serve { file }),
+            Subcommand::Replay { file } => {
                 let script = read_script(alloc, Kind::Steps, text)?;
                 Ok(Request::Replay { file, script })
             }
-            Asked::Lives { sectors, log } => {
+            Subcommand::Lives { sectors, log } => {
                 let (geometry, script) = scripted(alloc, Kind::Lives, sectors, log, text)?;
                 Ok(Request::Lives { geometry, script })
             }
-            Asked::Explore { sectors, log } => {
+            Subcommand::Explore { sectors, log } => {
                 let (geometry, script) = scripted(alloc, Kind::Steps, sectors, log, text)?;
                 Ok(Request::Explore { geometry, script })
             }
-            Asked::Storm {
+            Subcommand::Storm {
                 clients,
                 commits,
                 workers,
@@ -180,7 +184,7 @@ impl<'a> Request<'a> {
                 let load = load_in(alloc, clients, commits, workers)?;
                 Ok(Request::Storm { load })
             }
-            Asked::Tally { clients, tries } => {
+            Subcommand::Tally { clients, tries } => {
                 let load = tally_in(alloc, clients, tries)?;
                 Ok(Request::Tally { load })
             }

@@ -3,8 +3,8 @@ use Rattle.std.proofs.Common.{◌≡◌, ◌||◌, List, Option, Some, None, opt
 use Rattle.clap.specs.Words.{AddsSubcommand, App, Row, Text, is_simple, is_simple_and_free, with_subcommand}
 use Rattle.clap.specs.declared.builder.command.Command.{Command}
 use Rattle.clap.proofs.OnLiterals.{clap_on_literals}
-use Rattle.lsm_language.specs.declared.asked.Asked.{Asked}
-use Rattle.lsm_language.specs.declared.asked.Asked.TheVariants.{Format, Put, PutIf, Delete, Get, Scan, Stat, Check, Compact, Dump, Load, Serve, Replay, Lives, Explore, Storm, Tally}
+use Rattle.lsm_language.specs.declared.subcommand.Subcommand.{Subcommand}
+use Rattle.lsm_language.specs.declared.subcommand.Subcommand.TheVariants.{Format, Put, PutIf, Delete, Get, Scan, Stat, Check, Compact, Dump, Load, Serve, Replay, Lives, Explore, Storm, Tally}
 use Rattle.lsmctl.specs.Program.{Asks, IsCommand, has_words, program}
 
 -- the parser's matches of the program are those of its definitions
@@ -18,7 +18,7 @@ unfolding clap_on_literals
 is_simple_and_free-program = refl
 
 -- what is asked for has its words
-pub has_words-asked : (name : Text) (rows : List Row) (asked : Asked) → Asks name rows asked → has_words name rows ≡ true
+pub has_words-asked : (name : Text) (rows : List Row) (asked : Subcommand) → Asks name rows asked → has_words name rows ≡ true
 has_words-asked name rows (Format file sectors log) (n, a, b, c) = rw (n, a, b, c) refl
 has_words-asked name rows (Put file key value) (n, a, b, c) = rw (n, a, b, c) refl
 has_words-asked name rows (PutIf file key old new) (n, a, b, c, d) = rw (n, a, b, c, d) refl

@@ -10,8 +10,8 @@ use Rattle.clap.specs.declared.error.kind.ErrorKind.TheVariants.{OutOfMemory}
 use Rattle.lsm_device.specs.declared.refusal.Refusal.{Refusal}
 use Rattle.lsm_device.specs.declared.refusal.Refusal.TheVariants.{NoMemory, Stopped}
 use Rattle.lsmctl.specs.declared.answer.Answer.{Answer}
-use Rattle.lsm_language.specs.declared.asked.Asked.{Asked}
-use Rattle.lsm_language.specs.declared.asked.Asked.TheVariants as asked
+use Rattle.lsm_language.specs.declared.subcommand.Subcommand.{Subcommand}
+use Rattle.lsm_language.specs.declared.subcommand.Subcommand.TheVariants as subcommand
 use Rattle.lsm_language.specs.declared.request.Request.{Request}
 use Rattle.lsm_language.specs.declared.request.Request.TheVariants as request
 use Rattle.lsm_language.specs.declared.fault.Fault.{Fault}
@@ -60,7 +60,7 @@ AskNothing-words words name rows found e = record {
 -- ---- why there is no answer
 
 -- the first that is wrong with what was read
-pub untried-request : (words : List Text) (input : Option (List ℕ)) (asked : Asked) (text : List ℕ) (reason : Reason) → IsRead words input asked text
+pub untried-request : (words : List Text) (input : Option (List ℕ)) (asked : Subcommand) (text : List ℕ) (reason : Reason) → IsRead words input asked text
     → (reason_for asked text ≡ Some reason) ⊎ (reason ≡ refusal NoMemory) → IsUntried words input reason
 untried-request words input asked text reason read (inl e) = inl record { asked = asked; text = text; read = read; first = e }
 untried-request words input asked text reason read (inr e) = inr (inr (inl e))
@@ -71,7 +71,7 @@ untried-words words input reason (inl nothing) = inr (inl nothing)
 untried-words words input reason (inr short) = inr (inr (inl short))
 
 -- a script that could not be read, or no memory for it
-pub untried-script : (words : List Text) (input : Option (List ℕ)) (asked : Asked) (reason : Reason) → IsAsked words asked
+pub untried-script : (words : List Text) (input : Option (List ℕ)) (asked : Subcommand) (reason : Reason) → IsAsked words asked
     → (reason ≡ refusal NoMemory) ⊎ ((reason ≡ unread) × IsTrue (wants_script asked)) → IsUntried words input reason
 untried-script words input asked reason words_ask (inl short) = inr (inr (inl short))
 untried-script words input asked reason words_ask (inr (is, wants)) = inr (inr (inr (is, record { asked = asked; words_ask = words_ask; wants = wants })))
@@ -83,15 +83,15 @@ keeps (Some xs) None e = cc
 keeps (Some xs) (Some ys) e = cc
 
 -- the input is left as it is before it is read for rows
-untouched_lines : (asked : Asked) (text : List ℕ) (path : Bor (List ℕ)) → Says asked text (request.Serve path) → wants_script asked ≡ false
-untouched_lines (asked.Serve file) text path says = refl
+untouched_lines : (asked : Subcommand) (text : List ℕ) (path : Bor (List ℕ)) → Says asked text (request.Serve path) → wants_script asked ≡ false
+untouched_lines (subcommand.Serve file) text path says = refl
 untouched_lines other text path says = absurd says
 
-untouched : (asked : Asked) (text : List ℕ) (path : Bor (List ℕ)) → Says asked text (request.Load path) → wants_script asked ≡ false
-untouched (asked.Load file) text path says = refl
+untouched : (asked : Subcommand) (text : List ℕ) (path : Bor (List ℕ)) → Says asked text (request.Load path) → wants_script asked ≡ false
+untouched (subcommand.Load file) text path says = refl
 untouched other text path says = absurd says
 
-module _ (asked : Asked) (text : List ℕ) (before after output output_after : Option (List ℕ)) (same : wants_script asked ≡ false → after ≡ before) where
+module _ (asked : Subcommand) (text : List ℕ) (before after output output_after : Option (List ℕ)) (same : wants_script asked ≡ false → after ≡ before) where
   pub comes_of : (r : Request) (answer : Answer) → Says asked text r → Comes r after output output_after answer → Comes r before output output_after answer
   comes_of (request.Load path) answer says comes = subst (λ (i : Option (List ℕ)). Comes (request.Load path) i output output_after answer) (same (untouched asked text path says)) comes
   comes_of (request.Serve path) answer says comes = subst (λ (i : Option (List ℕ)). Comes (request.Serve path) i output output_after answer) (same (untouched_lines asked text path says)) comes
@@ -103,7 +103,7 @@ module _ (asked : Asked) (text : List ℕ) (before after output output_after : O
   faults_of other reason says faults = faults
 
 -- what comes of a request
-pub answered_so : (words : List Text) (input left output output_after : Option (List ℕ)) (asked : Asked) (text : List ℕ) (request : Request) (result : Result Answer Fault)
+pub answered_so : (words : List Text) (input left output output_after : Option (List ℕ)) (asked : Subcommand) (text : List ℕ) (request : Request) (result : Result Answer Fault)
     → IsRead words input asked text → reason_for asked text ≡ None → Says asked text request → (wants_script asked ≡ false → left ≡ input)
     → IfOk result (Comes request left output output_after) → IfErr result (λ e. FaultsWith request left (reason_of e) output output_after)
     → MatchResult result (IsServed words input output output_after) (λ fault. Fails words input (reason_of fault) output output_after)

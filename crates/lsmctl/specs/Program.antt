@@ -5,8 +5,8 @@ use Rattle.clap.specs.Words.{App, Row, Rule, Text, app_of, first_of, new_app, ne
 use Rattle.clap.specs.declared.builder.command.Command.{Command}
 use Rattle.clap.specs.declared.builder.command.Command.TheViews.{out-Command as fields_of}
 use Rattle.clap.specs.declared.builder.ArgAction.TheVariants.{Set}
-use Rattle.lsm_language.specs.declared.asked.Asked.{Asked}
-use Rattle.lsm_language.specs.declared.asked.Asked.TheVariants.{Format, Put, PutIf, Delete, Get, Scan, Stat, Check, Compact, Dump, Load, Serve, Replay, Lives, Explore, Storm, Tally}
+use Rattle.lsm_language.specs.declared.subcommand.Subcommand.{Subcommand}
+use Rattle.lsm_language.specs.declared.subcommand.Subcommand.TheVariants.{Format, Put, PutIf, Delete, Get, Scan, Stat, Check, Compact, Dump, Load, Serve, Replay, Lives, Explore, Storm, Tally}
 
 -- a word that has to be there
 abbrev pub word_rule : Text → Rule
@@ -72,7 +72,7 @@ abbrev pub HasWord : List Row → Text → Text → Type 0
 HasWord rows place word = first_of place rows ≡ Some word
 
 -- what is asked for by a subcommand's name and its words
-abbrev pub Asks : Text → List Row → Asked → Type 0
+abbrev pub Asks : Text → List Row → Subcommand → Type 0
 Asks name rows (Format file sectors log) = (name ≡ codes "format") × HasWord rows (codes "FILE") file.now
     × HasWord rows (codes "SECTORS") sectors.now × HasWord rows (codes "LOG") log.now
 Asks name rows (Put file key value) = (name ≡ codes "put") × HasWord rows (codes "FILE") file.now

@@ -5,7 +5,7 @@ use Rattle.std.specs.List.{list_any}
 use Rattle.std.specs.Io.KnownBytes.{Appends, Keeps}
 use Rattle.clap.specs.Words.{Row, Text, fault_of, subcommand_of}
 use Rattle.lsm_device.specs.declared.refusal.Refusal.TheVariants.{NoMemory}
-use Rattle.lsm_language.specs.declared.asked.Asked.{Asked}
+use Rattle.lsm_language.specs.declared.subcommand.Subcommand.{Subcommand}
 use Rattle.lsm_language.specs.declared.request.Request.{Request}
 use Rattle.lsm_language.specs.declared.request.Request.TheVariants as request
 use Rattle.lsmctl.specs.declared.answer.Answer.{Answer}
@@ -26,7 +26,7 @@ abbrev pub has_dash : List Text → Bool
 has_dash words = list_any (λ word. is_some (after 45 word)) words
 
 -- What the words ask for: the parser finds no fault in them, but a subcommand and its words, and none begins with a dash.
-pub record IsAsked (words : List Text) (asked : Asked) : Type 0 where
+pub record IsAsked (words : List Text) (asked : Subcommand) : Type 0 where
   pub name : Text
   pub rows : List Row
   pub faultless : fault_of program words ≡ []
@@ -36,17 +36,17 @@ pub record IsAsked (words : List Text) (asked : Asked) : Type 0 where
 
 -- they ask for nothing
 pub record AskNothing (words : List Text) : Type 0 where
-  pub none : (asked : Asked) → ¬ (IsAsked words asked)
+  pub none : (asked : Subcommand) → ¬ (IsAsked words asked)
 
 -- The words and the script, which is all that is read of the input, as far as that is known: all of it, unless a line is too long, by which
 -- the script is wrong.
-pub record IsRead (words : List Text) (input : Option (List ℕ)) (asked : Asked) (text : List ℕ) : Type 0 where
+pub record IsRead (words : List Text) (input : Option (List ℕ)) (asked : Subcommand) (text : List ℕ) : Type 0 where
   pub words_ask : IsAsked words asked
   pub whole : IsTrue (wants_script asked) → IfSome input (λ all. text ≡ read_within 300001 all)
 
 -- nothing is wrong with them, and the request is what they say
 pub record IsRequested (words : List Text) (input : Option (List ℕ)) (request : Request) : Type 0 where
-  pub asked : Asked
+  pub asked : Subcommand
   pub text : List ℕ
   pub read : IsRead words input asked text
   pub sound : reason_for asked text ≡ None
@@ -70,14 +70,14 @@ pub record HasServed (words : List Text) (input output output_after : Option (Li
 
 -- this is the first that is wrong with the words and the script
 pub record IsWrong (words : List Text) (input : Option (List ℕ)) (reason : Reason) : Type 0 where
-  pub asked : Asked
+  pub asked : Subcommand
   pub text : List ℕ
   pub read : IsRead words input asked text
   pub first : reason_for asked text ≡ Some reason
 
 -- the script was asked for, and could not be read
 pub record IsUnread (words : List Text) : Type 0 where
-  pub asked : Asked
+  pub asked : Subcommand
   pub words_ask : IsAsked words asked
   pub wants : IsTrue (wants_script asked)
 

@@ -12,12 +12,12 @@ ghost use Rattle.lsmctl.specs.Runs.{has_dash, IsAsked, AskNothing};
 use clap::error::ErrorKind;
 use clap::{Arg, ArgAction, ArgMatches, Command};
 use lsm_device::Refusal;
-use lsm_language::{Asked, Fault, Usage, after};
+use lsm_language::{Fault, Subcommand, Usage, after};
 use std::alloc::{AllocError, Global};
 use std::convert::AsStr;
 
 /// Reads the words after the program's name.
-pub fn asked_for<'a, S: AsStr>(alloc: Global, words: &'a [S]) -> Result<Asked<'a>, Fault>
+pub fn asked_for<'a, S: AsStr>(alloc: Global, words: &'a [S]) -> Result<Subcommand<'a>, Fault>
     ensures asked { IfOk result (IsAsked (map S.text words.entry.now)) }
     ensures faults { IfErr result
         (λ e. ((reason_of e ≡ mistake) × AskNothing (map S.text words.entry.now))
@@ -285,22 +285,22 @@ fn word<'a>(alloc: Global, place: &'a str) -> Arg<'a>
 }
 
 // A subcommand's words from their places.
-fn subcommand<'a>(name: &str, given: &ArgMatches<'a>) -> Result<Asked<'a>, Usage>
+fn subcommand<'a>(name: &str, given: &ArgMatches<'a>) -> Result<Subcommand<'a>, Usage>
     ensures { MatchResult result (Asks name.now (rows_of (found_of given.now)))
         (λ _. has_words name.now (rows_of (found_of given.now)) ≡ false) }
 {
     match name {
         "format" => {
             let (file, sectors, log) = three(given, "FILE", "SECTORS", "LOG")?;
-            Ok(Asked::Format { file, sectors, log })
+            Ok(Subcommand::Format { file, sectors, log })
         }
         "put" => {
             let (file, key, value) = three(given, "FILE", "KEY", "VALUE")?;
-            Ok(Asked::Put { file, key, value })
+            Ok(Subcommand::Put { file, key, value })
         }
         "putif" => {
             let (file, key, old, new) = four(given, "FILE", "KEY", "OLD", "NEW")?;
-            Ok(Asked::PutIf {
+            Ok(Subcommand::PutIf {
                 file,
                 key,
                 old,
@@ -309,75 +309,75 @@ fn subcommand<'a>(name: &str, given: &ArgMatches<'a>) -> Result<Asked<'a>, Usage
         }
         "del" => {
             let (file, key) = two(given, "FILE", "KEY")?;
-            Ok(Asked::Delete { file, key })
+            Ok(Subcommand::Delete { file, key })
         }
         _ => other(name, given),
     }
 }
 
 // The words of a subcommand that reads a store or does many things.
-fn other<'a>(name: &str, given: &ArgMatches<'a>) -> Result<Asked<'a>, Usage>
+fn other<'a>(name: &str, given: &ArgMatches<'a>) -> Result<Subcommand<'a>, Usage>
     ensures { MatchResult result (Asks name.now (rows_of (found_of given.now)))
         (λ _. has_other_words name.now (rows_of (found_of given.now)) ≡ false) }
 {
     match name {
         "get" => {
             let (file, key) = two(given, "FILE", "KEY")?;
-            Ok(Asked::Get { file, key })
+            Ok(Subcommand::Get { file, key })
         }
         "scan" => {
             let (file, from, limit) = three(given, "FILE", "FROM", "LIMIT")?;
-            Ok(Asked::Scan { file, from, limit })
+            Ok(Subcommand::Scan { file, from, limit })
         }
         "stat" => {
             let file = at(given, "FILE")?;
-            Ok(Asked::Stat { file })
+            Ok(Subcommand::Stat { file })
         }
         "check" => {
             let file = at(given, "FILE")?;
-            Ok(Asked::Check { file })
+            Ok(Subcommand::Check { file })
         }
         "compact" => {
             let file = at(given, "FILE")?;
-            Ok(Asked::Compact { file })
+            Ok(Subcommand::Compact { file })
         }
         "dump" => {
             let file = at(given, "FILE")?;
-            Ok(Asked::Dump { file })
+            Ok(Subcommand::Dump { file })
         }
         "load" => {
             let file = at(given, "FILE")?;
-            Ok(Asked::Load { file })
+            Ok(Subcommand::Load { file })
         }
         "serve" => {
             let file = at(given, "FILE")?;
-            Ok(Asked::Serve { file })
+            Ok(Subcommand::Serve { file })
         }
         _ => script(name, given),
     }
 }
 
 // The words of a subcommand that does many things.
-fn script<'a>(name: &str, given: &ArgMatches<'a>) -> Result<Asked<'a>, Usage>
+fn script<'a>(name: &str, given: &ArgMatches<'a>) -> Result<Subcommand<'a>, Usage>
     ensures { MatchResult result (Asks name.now (rows_of (found_of given.now)))
         (λ _. has_script_words name.now (rows_of (found_of given.now)) ≡ false) }
 {
     match name {
         "replay" => {
             let file = at(given, "FILE")?;
-            Ok(Asked::Replay { file })
+            Ok(Subcommand::Replay { file })
         }
         "lives" => {
             let (sectors, log) = two(given, "SECTORS", "LOG")?;
-            Ok(Asked::Lives { sectors, log })
+            Ok(Subcommand::Lives { sectors, log })
         }
         "explore" => {
             let (sectors, log) = two(given, "SECTORS", "LOG")?;
-            Ok(Asked::Explore { sectors, log })
+            Ok(Subcommand::Explore { sectors, log })
         }
         "storm" => {
             let (clients, commits, workers) = three(given, "CLIENTS", "COMMITS", "WORKERS")?;
-            Ok(Asked::Storm {
+            Ok(Subcommand::Storm {
                 clients,
                 commits,
                 workers,
@@ -385,7 +385,7 @@ fn script<'a>(name: &str, given: &ArgMatches<'a>) -> Result<Asked<'a>, Usage>
         }
         "tally" => {
             let (clients, tries) = two(given, "CLIENTS", "TRIES")?;
-            Ok(Asked::Tally { clients, tries })
+            Ok(Subcommand::Tally { clients, tries })
         }
         _ => Err(Usage::Missing("the subcommand")),
     }

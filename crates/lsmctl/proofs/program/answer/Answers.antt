@@ -3,7 +3,7 @@ use Rattle.std.specs.Prelude.{IfSome, IsTrue}
 use Rattle.clap.specs.Words.{Text}
 use Rattle.lsm_language.specs.Requests.{wants_script}
 use Rattle.lsm_language.specs.Scripts.{read_within}
-use Rattle.lsm_language.specs.declared.asked.Asked.{Asked}
+use Rattle.lsm_language.specs.declared.subcommand.Subcommand.{Subcommand}
 use Rattle.std.proofs.lemmas.Result.{err_from_is_err_and}
 use Rattle.lsmctl.specs.Runs.{IsAsked, IsRead}
 use Rattle.lsmctl.proofs.RunLaws.{answered_so, keeps, untried-request, untried-script, untried-words}
@@ -28,7 +28,7 @@ returns-in_err-request g c =
     rw (p.1, p.2) (inl (untried-request words input _ _ _ read c.in_err-request.ensures, keeps _ _ refl))
 
 -- what was read, as a slice
-read_so : (words : List Text) (input : Option (List ℕ)) (asked : Asked) (text seen : List ℕ) → IsAsked words asked
+read_so : (words : List Text) (input : Option (List ℕ)) (asked : Subcommand) (text seen : List ℕ) → IsAsked words asked
     → (IsTrue (wants_script asked) → IfSome input (λ all. text ≡ read_within 300001 all)) → seen ≡ text → IsRead words input asked seen
 read_so words input asked text seen words_ask whole is = record {
   words_ask = words_ask;

@@ -2,7 +2,7 @@
 
 /// A subcommand with its words.
 #[derive(Clone, Copy)]
-pub enum Asked<'a> {
+pub enum Subcommand<'a> {
     Format {
         file: &'a str,
         sectors: &'a str,
