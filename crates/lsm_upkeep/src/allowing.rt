@@ -30,44 +30,44 @@ pub(crate) struct Allowance {
 struct Grant {
     most: MemSize,
     waiting: MemSize,
-    asked: Asked,
+    basis: Basis,
 }
 
 impl Model for Grant {
     ghost use Rattle.lsm_mem.specs.declared.size.MemSize.{MemSize};
     ghost use Rattle.lsm_room.specs.Flushes.{FlushesLeave};
-    ghost use Rattle.lsm_upkeep.specs.declared.allowing.Asked.{Asked};
+    ghost use Rattle.lsm_upkeep.specs.declared.allowing.Basis.{Basis};
 
-    ghost Value = { MemSize × (MemSize × Asked) };
+    ghost Value = { MemSize × (MemSize × Basis) };
 
-    ghost view = { λ g. (g.most, (g.waiting, g.asked)) };
+    ghost view = { λ g. (g.most, (g.waiting, g.basis)) };
 
-    ghost inverse = { λ v. record { most = v.0; waiting = v.1.0; asked = v.1.1 } };
+    ghost inverse = { λ v. record { most = v.0; waiting = v.1.0; basis = v.1.1 } };
 
-    ghost invariant = { λ g. FlushesLeave 100 g.asked.free_blocks g.asked.live g.waiting g.most };
+    ghost invariant = { λ g. FlushesLeave 100 g.basis.free_blocks g.basis.live g.waiting g.most };
 }
 
-/// What a store was asked of.
+/// What a grant rests on: it holds as long as a store has the same.
 #[derive(Clone, Copy)]
-struct Asked {
+struct Basis {
     generation: u64,
     free_blocks: u32,
     live: bool,
 }
 
-impl Asked {
-    fn of<D: Device>(store: &Store<D>) -> Asked
+impl Basis {
+    fn of<D: Device>(store: &Store<D>) -> Basis
         ensures free { result.free_blocks ≡ free_count store.now.work.area }
         ensures live { result.live ≡ is_live store.now.state }
     {
-        Asked {
+        Basis {
             generation: store.generation(),
             free_blocks: store.extents().free_blocks(),
             live: store.has_snapshots(),
         }
     }
 
-    fn is_same(self, other: Asked) -> bool
+    fn is_same(self, other: Basis) -> bool
         ensures { result ≡ true → (self.free_blocks ≡ other.free_blocks)
             × (self.live ≡ other.live) }
     {
@@ -79,9 +79,9 @@ impl Asked {
 
 impl Grant {
     // What a store grants for a demand, with `ENTRIES` entries of `BYTES` bytes more.
-    fn of<D: Device>(store: &Store<D>, asked: Asked, demand: &Demand) -> Option<Grant>
-        requires free { asked.free_blocks ≡ free_count store.now.work.area }
-        requires live { asked.live ≡ is_live store.now.state }
+    fn of<D: Device>(store: &Store<D>, basis: Basis, demand: &Demand) -> Option<Grant>
+        requires free { basis.free_blocks ≡ free_count store.now.work.area }
+        requires live { basis.live ≡ is_live store.now.state }
         ensures { IfSome result
             (λ grant. FlushesLeave 100 (free_count store.now.work.area) (is_live store.now.state)
             demand.now.memory.waiting demand.now.memory.after) }
@@ -93,17 +93,17 @@ impl Grant {
         Some(Grant {
             most,
             waiting: demand.waiting(),
-            asked,
+            basis,
         })
     }
 
     // Whether it covers what is demanded of a store that is asked so.
-    fn covers(&self, asked: Asked, demand: &Demand) -> bool
+    fn covers(&self, basis: Basis, demand: &Demand) -> bool
         ensures { result ≡ true
-            → FlushesLeave 100 asked.free_blocks asked.live demand.now.memory.waiting
+            → FlushesLeave 100 basis.free_blocks basis.live demand.now.memory.waiting
             demand.now.memory.after }
     {
-        self.asked.is_same(asked) && demand.is_within(self.most, self.waiting)
+        self.basis.is_same(basis) && demand.is_within(self.most, self.waiting)
     }
 }
 
@@ -119,21 +119,21 @@ impl Allowance {
             → FlushesLeave 100 (free_count store.now.work.area) (is_live store.now.state)
             demand.now.memory.waiting demand.now.memory.after }
     {
-        let asked = Asked::of(store);
-        if self.covers(asked, demand) {
+        let basis = Basis::of(store);
+        if self.covers(basis, demand) {
             return true;
         }
-        self.granted = Grant::of(store, asked, demand);
+        self.granted = Grant::of(store, basis, demand);
         self.granted.is_some() || demand.is_met(store)
     }
 
-    fn covers(&self, asked: Asked, demand: &Demand) -> bool
+    fn covers(&self, basis: Basis, demand: &Demand) -> bool
         ensures { result ≡ true
-            → FlushesLeave 100 asked.free_blocks asked.live demand.now.memory.waiting
+            → FlushesLeave 100 basis.free_blocks basis.live demand.now.memory.waiting
             demand.now.memory.after }
     {
         match &self.granted {
-            Some(grant) => grant.covers(asked, demand),
+            Some(grant) => grant.covers(basis, demand),
             None => false,
         }
     }

@@ -8,9 +8,9 @@ ghost use Rattle.lsm_upkeep.specs.Steps.{IsUpkept};
 
 use crate::finishing::finish_step;
 use crate::flushing::flush;
+use crate::next_compaction::{NextCompaction, next_compaction};
 use crate::pushing::join_all;
 use crate::stepping::{Went, step_down, step_to_the_last};
-use crate::wanting::{Wanted, wanted_by};
 use lsm_device::Device;
 use lsm_levels::{Choice, Levels, Run};
 use lsm_policy::Policy;
@@ -48,10 +48,10 @@ pub fn compact<D: Device>(alloc: Global, store: &mut Store<D>, policy: &Policy)
 fn finish_wanted<D: Device>(alloc: Global, store: &mut Store<D>, policy: &Policy) -> bool
     ensures { IsUpkept store.old store.new }
 {
-    match wanted_by(policy, store) {
-        Wanted::Nothing => false,
-        Wanted::Step => matches!(step_down(alloc, store), Went::On),
-        Wanted::Merge(choice) => finish_merge(alloc, store, choice),
+    match next_compaction(policy, store) {
+        NextCompaction::Nothing => false,
+        NextCompaction::Step => matches!(step_down(alloc, store), Went::On),
+        NextCompaction::Merge(choice) => finish_merge(alloc, store, choice),
     }
 }
 

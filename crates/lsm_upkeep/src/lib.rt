@@ -43,6 +43,7 @@ mod flushing;
 mod keeping;
 mod lacking;
 mod merging;
+mod next_compaction;
 mod pages;
 mod piecework;
 mod planning;
@@ -52,7 +53,6 @@ mod settling;
 mod stepping;
 mod trying;
 mod upkeep;
-mod wanting;
 mod writing;
 
 pub use admitting::{admit, open_log};

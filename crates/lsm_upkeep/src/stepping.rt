@@ -5,7 +5,7 @@ ghost use Rattle.lsm_upkeep.specs.Steps.{IsUpkept};
 ghost use Rattle.lsm_upkeep.specs.Writing.{is_live};
 
 use crate::finishing::finish_step;
-use crate::wanting::step_by;
+use crate::next_compaction::step_by;
 use lsm_device::Device;
 use lsm_jobs::Slots;
 use lsm_policy::Policy;

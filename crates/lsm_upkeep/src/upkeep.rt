@@ -8,9 +8,9 @@ use crate::allowing::Allowance;
 use crate::compacting::compact;
 use crate::demand::Demand;
 use crate::merging::{do_some_pieces, finish_begun};
+use crate::next_compaction::{NextCompaction, next_compaction};
 use crate::piecework::PieceDone;
 use crate::stepping::{Went, step_down};
-use crate::wanting::{Wanted, wanted_by};
 use lsm_codec::Batch;
 use lsm_device::Device;
 use lsm_levels::Choice;
@@ -124,10 +124,10 @@ impl Upkeep {
         if !self.is_due {
             return;
         }
-        match wanted_by(&Policy::new(), store) {
-            Wanted::Nothing => self.is_due = false,
-            Wanted::Step => self.is_due = matches!(step_down(alloc, store), Went::On),
-            Wanted::Merge(choice) => self.begin_merge(store, choice),
+        match next_compaction(&Policy::new(), store) {
+            NextCompaction::Nothing => self.is_due = false,
+            NextCompaction::Step => self.is_due = matches!(step_down(alloc, store), Went::On),
+            NextCompaction::Merge(choice) => self.begin_merge(store, choice),
         }
     }
 

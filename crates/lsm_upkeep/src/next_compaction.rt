@@ -16,7 +16,7 @@ const MANY_RUNS: usize = 8;
 
 /// What is to be done next.
 #[derive(Clone, Copy)]
-pub(crate) enum Wanted {
+pub(crate) enum NextCompaction {
     /// Nothing.
     Nothing,
     /// A step down.
@@ -26,15 +26,15 @@ pub(crate) enum Wanted {
 }
 
 /// What the policy wants: the merge that it chooses, where that is sure to find room; or else a step down, where level 0 has some runs.
-pub(crate) fn wanted_by<D: Device>(policy: &Policy, store: &Store<D>) -> Wanted {
+pub(crate) fn next_compaction<D: Device>(policy: &Policy, store: &Store<D>) -> NextCompaction {
     let Ok(stat) = store.stat() else {
-        return Wanted::Nothing;
+        return NextCompaction::Nothing;
     };
     match policy.next_choice(store.levels(), stat.free_blocks, store.jobs()) {
-        Some(choice) if standing(store).is_sure(choice, u64::MAX) => Wanted::Merge(choice),
-        Some(_) if stat.runs >= SOME_RUNS => Wanted::Step,
-        _ if stat.runs >= MANY_RUNS => Wanted::Step,
-        _ => Wanted::Nothing,
+        Some(choice) if standing(store).is_sure(choice, u64::MAX) => NextCompaction::Merge(choice),
+        Some(_) if stat.runs >= SOME_RUNS => NextCompaction::Step,
+        _ if stat.runs >= MANY_RUNS => NextCompaction::Step,
+        _ => NextCompaction::Nothing,
     }
 }
 
@@ -44,9 +44,9 @@ pub(crate) fn step_by<D: Device>(
     store: &Store<D>,
     policy: &Policy,
 ) -> Result<Option<Step>, AllocError> {
-    match wanted_by(policy, store) {
-        Wanted::Nothing => Ok(None),
-        Wanted::Step => next_down(alloc, store),
-        Wanted::Merge(choice) => Ok(Some(Step::whole(&alloc, choice)?)),
+    match next_compaction(policy, store) {
+        NextCompaction::Nothing => Ok(None),
+        NextCompaction::Step => next_down(alloc, store),
+        NextCompaction::Merge(choice) => Ok(Some(Step::whole(&alloc, choice)?)),
     }
 }
