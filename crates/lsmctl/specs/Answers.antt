@@ -44,7 +44,7 @@ use Rattle.lsmctl.specs.Loading.{HasLoaded, KeepsAndLoads, RefusesToLoad, loaded
 use Rattle.lsm_language.specs.Replies.{stat_line}
 use Rattle.lsmctl.specs.Replies.{page_lines, report_line, table_line, counts_lines, replies_text, lives_text}
 use Rattle.lsmctl.specs.declared.loading.Loaded.{Loaded as LoadedUpTo}
-use Rattle.lsmctl.specs.declared.steps.Told.{Told}
+use Rattle.lsmctl.specs.declared.steps.ReplyFormat.{ReplyFormat}
 use Rattle.lsm_serve.specs.Committing.{CompactsWhole}
 use Rattle.lsm_serve.specs.Serving.{IsServed}
 use Rattle.lsm_storm.specs.Storms.{HasStormed}
@@ -207,14 +207,14 @@ pub record HasChecked (answer : Answer) : Type 0 where
   pub hands : Hands answer.file after
 
 -- steps were made of the store, and the replies to them are told, each as its line asks for
-pub record HasReplies (asked : List Asked) (steps : List Told) (before after : StoreView) (output : Output) : Type 0 where
+pub record HasReplies (asked : List Asked) (steps : List ReplyFormat) (before after : StoreView) (output : Output) : Type 0 where
   pub replies : List LivesTold
   pub makes : MakesEach [] before asked replies after
   pub told : HasLines (replies_text steps replies) output
 
 -- Lives were led on a device in memory of `sectors` sectors with an empty store, and the replies to them are told. They keep
 -- the promise over crashes.
-pub record HasLives (sectors log_sectors : ℕ) (lives : List LifeView) (steps : List (List Told)) (output : Output) : Type 0 where
+pub record HasLives (sectors log_sectors : ℕ) (lives : List LifeView) (steps : List (List ReplyFormat)) (output : Output) : Type 0 where
   pub device : Medium
   pub left : Medium
   pub replies : List (List LivesTold)

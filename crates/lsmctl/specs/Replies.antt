@@ -9,8 +9,8 @@ use Rattle.lsm_language.specs.Faults.{refusal_line}
 use Rattle.lsm_storm.specs.declared.counts.Counts.{Counts}
 use Rattle.lsm_lives.specs.Asked.{Told as LivesTold}
 use Rattle.lsm_language.specs.Replies.{next_line, told_line}
-use Rattle.lsmctl.specs.declared.steps.Told.{Told}
-use Rattle.lsmctl.specs.declared.steps.Told.TheVariants as told
+use Rattle.lsmctl.specs.declared.steps.ReplyFormat.{ReplyFormat}
+use Rattle.lsmctl.specs.declared.steps.ReplyFormat.TheVariants as reply_format
 
 -- a row in a line of its own
 abbrev pub row_line : Bytes × Bytes → List ℕ
@@ -35,14 +35,14 @@ counts_lines counts = codes "commits " ++ decimal counts.commits ++ codes "\nbat
     ++ codes "\nrows " ++ decimal counts.rows ++ 10 ∷ []
 
 -- a line for each step
-abbrev pub replies_text : List Told → List LivesTold → List ℕ
+abbrev pub replies_text : List ReplyFormat → List LivesTold → List ℕ
 replies_text [] replies = []
-replies_text (told.NoBatch refusal ∷ steps) replies = refusal_line refusal ++ replies_text steps replies
-replies_text (told.Reply counted ∷ steps) (reply ∷ replies) = told_line counted reply ++ replies_text steps replies
-replies_text (told.Reply counted ∷ steps) [] = replies_text steps []
+replies_text (reply_format.NoBatch refusal ∷ steps) replies = refusal_line refusal ++ replies_text steps replies
+replies_text (reply_format.Reply counted ∷ steps) (reply ∷ replies) = told_line counted reply ++ replies_text steps replies
+replies_text (reply_format.Reply counted ∷ steps) [] = replies_text steps []
 
 -- the lines of each life
-abbrev pub lives_text : List (List Told) → List (List LivesTold) → List ℕ
+abbrev pub lives_text : List (List ReplyFormat) → List (List LivesTold) → List ℕ
 lives_text [] replies = []
 lives_text (steps ∷ lives) (replies ∷ more) = replies_text steps replies ++ lives_text lives more
 lives_text (steps ∷ lives) [] = lives_text lives []

@@ -13,15 +13,15 @@ use Rattle.lsm_language.specs.declared.line.Kept.{Kept}
 use Rattle.lsm_language.specs.declared.line.Kept.TheVariants.{All, Places}
 use Rattle.lsm_language.specs.Replies.{counted_by}
 use Rattle.lsm_language.specs.declared.counted.Counted.TheVariants as counted
-use Rattle.lsmctl.specs.declared.steps.Told.{Told}
-use Rattle.lsmctl.specs.declared.steps.Told.TheVariants as told
+use Rattle.lsmctl.specs.declared.steps.ReplyFormat.{ReplyFormat}
+use Rattle.lsmctl.specs.declared.steps.ReplyFormat.TheVariants as reply_format
 
 -- how a call and a piece of work are told, by their replies; a number of such a piece is of blocks that are left
-abbrev pub told_of_call : Call → Told
-told_of_call call = told.Reply (counted_by call)
+abbrev pub told_of_call : Call → ReplyFormat
+told_of_call call = reply_format.Reply (counted_by call)
 
-abbrev pub told_of_piece : Told
-told_of_piece = told.Reply counted.Left
+abbrev pub told_of_piece : ReplyFormat
+told_of_piece = reply_format.Reply counted.Left
 
 -- ---- steps alone, each after those before it
 
@@ -33,11 +33,11 @@ steps_after steps (line.Work piece ∷ lines) = steps_after (steps ++ step.Work 
 steps_after steps (_ ∷ lines) = steps_after steps lines
 
 -- how each step is told
-abbrev pub told_after : List Told → List Line → List Told
+abbrev pub told_after : List ReplyFormat → List Line → List ReplyFormat
 told_after steps [] = steps
 told_after steps (line.Call call ∷ lines) = told_after (steps ++ told_of_call (call_of call) ∷ []) lines
 told_after steps (line.Work piece ∷ lines) = told_after (steps ++ told_of_piece ∷ []) lines
-told_after steps (line.NoBatch refusal ∷ lines) = told_after (steps ++ told.NoBatch refusal ∷ []) lines
+told_after steps (line.NoBatch refusal ∷ lines) = told_after (steps ++ reply_format.NoBatch refusal ∷ []) lines
 told_after steps (_ ∷ lines) = told_after steps lines
 
 -- ---- lives, each after those before it
@@ -82,17 +82,17 @@ abbrev pub lives_said : List Line → List LifeView
 lives_said lines = map view_of (lives_after [] None [] (ended lines))
 
 -- a life is told by its opening and its steps
-abbrev pub opened : List Told
-opened = told.Reply counted.Opened ∷ []
+abbrev pub opened : List ReplyFormat
+opened = reply_format.Reply counted.Opened ∷ []
 
-abbrev pub told_lives_after : List (List Told) → List Told → List Line → List (List Told)
+abbrev pub told_lives_after : List (List ReplyFormat) → List ReplyFormat → List Line → List (List ReplyFormat)
 told_lives_after lives steps [] = lives
 told_lives_after lives steps (line.Call call ∷ lines) = told_lives_after lives (steps ++ told_of_call (call_of call) ∷ []) lines
 told_lives_after lives steps (line.Work piece ∷ lines) = told_lives_after lives (steps ++ told_of_piece ∷ []) lines
-told_lives_after lives steps (line.NoBatch refusal ∷ lines) = told_lives_after lives (steps ++ told.NoBatch refusal ∷ []) lines
+told_lives_after lives steps (line.NoBatch refusal ∷ lines) = told_lives_after lives (steps ++ reply_format.NoBatch refusal ∷ []) lines
 told_lives_after lives steps (line.Fuse number ∷ lines) = told_lives_after lives steps lines
 told_lives_after lives steps (line.Crash kept ∷ lines) = told_lives_after (lives ++ steps ∷ []) opened lines
 
 -- how the lives of a script are told
-abbrev pub told_lives : List Line → List (List Told)
+abbrev pub told_lives : List Line → List (List ReplyFormat)
 told_lives lines = told_lives_after [] opened (ended lines)

@@ -7,7 +7,7 @@ ghost use Rattle.lsm_lives.specs.Living.{told_by};
 ghost use Rattle.std.specs.List.{flat_map};
 ghost use Rattle.lsmctl.specs.Replies.{counts_lines, lives_text, page_lines, replies_text, report_line, row_line, table_line};
 
-use crate::steps::Told;
+use crate::steps::ReplyFormat;
 use lsm_check::Report;
 use lsm_codec::word;
 use lsm_device::Refusal;
@@ -22,7 +22,7 @@ use std::fmt::Write;
 pub fn push_replies(
     alloc: Global,
     text: &mut String,
-    told: &[Told],
+    told: &[ReplyFormat],
     replies: &[Reply],
 ) -> Result<(), Refusal>
     ensures text { OnOk result
@@ -33,8 +33,8 @@ pub fn push_replies(
     let mut rest = replies;
     for step in told {
         match step {
-            Told::NoBatch(refusal) => push_refusal(text, *refusal)?,
-            Told::Reply(counted) => {
+            ReplyFormat::NoBatch(refusal) => push_refusal(text, *refusal)?,
+            ReplyFormat::Reply(counted) => {
                 if let Some((reply, others)) = rest.split_first() {
                     push_reply(alloc, text, *counted, reply)?;
                     rest = others;
@@ -49,7 +49,7 @@ pub fn push_replies(
 pub fn push_lives(
     alloc: Global,
     text: &mut String,
-    told: &[Vec<Told>],
+    told: &[Vec<ReplyFormat>],
     replies: &[Vec<Reply>],
 ) -> Result<(), Refusal>
     ensures text { OnOk result (string_bytes text.new ≡ string_bytes text.old

@@ -18,7 +18,7 @@ const STEP_WRITES: usize = 128;
 
 /// How the reply of a step is told.
 #[derive(Clone, Copy)]
-pub enum Told {
+pub enum ReplyFormat {
     /// As the store's reply. A number in it counts this.
     Reply(Counted),
     /// As this refusal, since the guards or the operations can't be formed, and no call is made.
@@ -29,7 +29,7 @@ pub enum Told {
 #[derive(Drop)]
 pub struct Steps {
     pub steps: Vec<Step>,
-    pub told: Vec<Told>,
+    pub told: Vec<ReplyFormat>,
 }
 
 impl Steps {
@@ -47,7 +47,7 @@ impl Steps {
         ensures { OnOk result ((self.new.steps.items ≡ self.old.steps.items ++ step.Call call ∷ [])
             × (self.new.told.items ≡ self.old.told.items ++ told_of_call (call_of call) ∷ [])) }
     {
-        self.told.push(Told::Reply(counted_in(&call)))?;
+        self.told.push(ReplyFormat::Reply(counted_in(&call)))?;
         self.steps.push(Step::Call(call))?;
         Ok(())
     }
@@ -57,7 +57,7 @@ impl Steps {
         ensures { OnOk result ((self.new.steps.items ≡ self.old.steps.items ++ step.Work piece ∷ [])
             × (self.new.told.items ≡ self.old.told.items ++ told_of_piece ∷ [])) }
     {
-        self.told.push(Told::Reply(Counted::Left))?;
+        self.told.push(ReplyFormat::Reply(Counted::Left))?;
         self.steps.push(Step::Work(piece))?;
         Ok(())
     }
@@ -73,7 +73,7 @@ pub fn steps_of(alloc: Global, lines: Vec<Line>) -> Result<Steps, AllocError>
         match line {
             Line::Call(call) => steps.add(call)?,
             Line::Work(piece) => steps.add_work(piece)?,
-            Line::NoBatch(refusal) => steps.told.push(Told::NoBatch(refusal))?,
+            Line::NoBatch(refusal) => steps.told.push(ReplyFormat::NoBatch(refusal))?,
             Line::Fuse(_) | Line::Crash(_) => {}
         }
     }
@@ -84,7 +84,7 @@ pub fn steps_of(alloc: Global, lines: Vec<Line>) -> Result<Steps, AllocError>
 #[derive(Drop)]
 pub struct Lives {
     pub lives: Vec<Life>,
-    pub told: Vec<Vec<Told>>,
+    pub told: Vec<Vec<ReplyFormat>>,
 }
 
 impl Lives {
@@ -128,7 +128,7 @@ impl Begun {
             × (begun.steps.told.items ≡ opened)) }
     {
         let mut steps = Steps::new(alloc);
-        steps.told.push(Told::Reply(Counted::Opened))?;
+        steps.told.push(ReplyFormat::Reply(Counted::Opened))?;
         Ok(Begun { fuse: None, steps })
     }
 }
@@ -150,7 +150,7 @@ pub fn lives_of(alloc: Global, lines: Vec<Line>) -> Result<Lives, AllocError>
         match line {
             Line::Call(call) => begun.steps.add(call)?,
             Line::Work(piece) => begun.steps.add_work(piece)?,
-            Line::NoBatch(refusal) => begun.steps.told.push(Told::NoBatch(refusal))?,
+            Line::NoBatch(refusal) => begun.steps.told.push(ReplyFormat::NoBatch(refusal))?,
             Line::Fuse(count) => begun.fuse = Some(count),
             Line::Crash(kept) => {
                 lives.end(alloc, begun, kept)?;

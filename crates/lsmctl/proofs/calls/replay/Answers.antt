@@ -8,19 +8,19 @@ use Rattle.lsm_lives.specs.declared.calls.Step.{Step as GivenStep}
 use Rattle.lsm_open.specs.Recovering.{IsOpeningRefusal}
 use Rattle.lsm_store.specs.Backing.{StoreView}
 use Rattle.lsmctl.specs.declared.answer.Output.{Output}
-use Rattle.lsmctl.specs.declared.steps.Told.{Told}
+use Rattle.lsmctl.specs.declared.steps.ReplyFormat.{ReplyFormat}
 use Rattle.lsmctl.specs.Answers.{HasReplies}
 use Rattle.lsmctl.specs.Steps.{steps_after, told_after}
 use Rattle.lsmctl.proofs.RefusedLaws.{closed_answers, closed_refuses, memory_refuses}
 use Rattle.lsmctl.proofs.calls.replay.Goals as goal
 
 -- the steps are those of the script
-script_replied : (steps : List (GivenStep Global)) (told : List Told) (script : List Line) (before after : StoreView) (done : Result Output Refusal) → steps ≡ steps_after [] script
+script_replied : (steps : List (GivenStep Global)) (told : List ReplyFormat) (script : List Line) (before after : StoreView) (done : Result Output Refusal) → steps ≡ steps_after [] script
     → told ≡ told_after [] script → IfOk done (HasReplies (map asked_of steps) told before after)
     → IfOk done (HasReplies (map asked_of (steps_after [] script)) (told_after [] script) before after)
 script_replied steps told script before after done same told_so replies =
     subst (λ (made : List (GivenStep Global)). IfOk done (HasReplies (map asked_of made) (told_after [] script) before after)) same
-    (subst (λ (said : List Told). IfOk done (HasReplies (map asked_of steps) said before after)) told_so replies)
+    (subst (λ (said : List ReplyFormat). IfOk done (HasReplies (map asked_of steps) said before after)) told_so replies)
 
 pub returns-clause-gives : goal.returns-clause-gives
 returns-clause-gives g c =
