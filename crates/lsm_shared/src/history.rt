@@ -10,7 +10,7 @@ ghost use Rattle.lsm_shared.specs.Sessions.{Knows};
 use crate::client::Client;
 use lsm_device::Device;
 use lsm_store::Store;
-use lsm_trail::{Counters, Entry, Numbers, Pass, SessionName, Trail};
+use lsm_trail::{Counters, Numbers, Pass, SessionName, Trail, TrailEntry};
 use std::alloc::Allocator;
 use std::marker::{Model, PhantomData};
 
@@ -102,7 +102,7 @@ impl<A: Allocator, B: SessionName> History<A, B> {
         &mut self,
         counters: &Counters<D, A, B>,
         client: &mut Client<A, B>,
-        entry: Entry<A>,
+        entry: TrailEntry<A>,
         store: &Store<D, A>,
     )
         requires room { length self.old < B.id.begin.limit }

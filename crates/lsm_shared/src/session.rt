@@ -14,7 +14,7 @@ use crate::history::History;
 use lsm_device::{Device, Refusal};
 use lsm_lives::{Call, Reply, serve};
 use lsm_store::Store;
-use lsm_trail::{Counters, Entry, Pass, SessionName, Trail};
+use lsm_trail::{Counters, Pass, SessionName, Trail, TrailEntry};
 use std::alloc::Allocator;
 use std::marker::Model;
 
@@ -128,7 +128,7 @@ impl<D: Device, A: Allocator + Clone, B: SessionName> Session<D, A, B> {
         }
         let reply = serve(&mut self.store, &call);
         let answer = answer_of(&reply)?;
-        let entry = Entry::of_call(me.number, call, reply, &self.store);
+        let entry = TrailEntry::of_call(me.number, call, reply, &self.store);
         self.history.enter(counters, me, entry, &self.store);
         Ok(answer)
     }

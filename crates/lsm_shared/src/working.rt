@@ -31,7 +31,7 @@ use lsm_lives::Reply;
 use lsm_merge::{Built, Input};
 use lsm_policy::Policy;
 use lsm_store::{Choice, Piece, Store};
-use lsm_trail::{Counters, Entry, SessionName};
+use lsm_trail::{Counters, SessionName, TrailEntry};
 use std::alloc::Allocator;
 use std::sync::Arc;
 
@@ -227,7 +227,7 @@ impl<D: Device, A: Allocator + Clone, B: SessionName> Session<D, A, B> {
             return Err(Refusal::TrailFull);
         }
         let result = self.history.next_result();
-        let entry = Entry::of_build(me.number, job, result, &input, &self.store);
+        let entry = TrailEntry::of_build(me.number, job, result, &input, &self.store);
         self.history.enter(counters, me, entry, &self.store);
         Ok(Turn::Merge { job, result, input })
     }
@@ -253,7 +253,7 @@ impl<D: Device, A: Allocator + Clone, B: SessionName> Session<D, A, B> {
         if is_short(refusal) {
             return Err(Refusal::NoMemory);
         }
-        let entry = Entry::of_refused_build(me.number, job, refusal, &self.store);
+        let entry = TrailEntry::of_refused_build(me.number, job, refusal, &self.store);
         self.history.enter(counters, me, entry, &self.store);
         Ok(Turn::Did(Reply::Refused(refusal)))
     }
@@ -277,7 +277,7 @@ impl<D: Device, A: Allocator + Clone, B: SessionName> Session<D, A, B> {
         }
         let reply = piece.make(&mut self.store);
         let answer = answer_of(&reply)?;
-        let entry = Entry::of_work(me.number, piece.work(), reply, &self.store);
+        let entry = TrailEntry::of_work(me.number, piece.work(), reply, &self.store);
         self.history.enter(counters, me, entry, &self.store);
         Ok(answer)
     }
@@ -328,7 +328,7 @@ impl<D: Device, A: Allocator + Clone, B: SessionName> Session<D, A, B> {
         are_tables(built);
         let reply = done(self.store.job_accept(job, built));
         let answer = answer_of(&reply)?;
-        let entry = Entry::of_accept(me.number, job, number, built, reply, &self.store);
+        let entry = TrailEntry::of_accept(me.number, job, number, built, reply, &self.store);
         self.history.enter(counters, me, entry, &self.store);
         Ok(answer)
     }

@@ -9,7 +9,7 @@ ghost use Rattle.lsm_storm.specs.Storms.{is_commit, is_accepted, accepted_in, is
 use lsm_device::{MemDevice, Refusal};
 use lsm_lives::{Call, Reply, Step};
 use lsm_store::{At, Store};
-use lsm_trail::{Entry, Trail};
+use lsm_trail::{Trail, TrailEntry};
 
 /// What a storm did.
 #[derive(Clone, Copy)]
@@ -31,7 +31,7 @@ const ROWS: u64 = 64;
 const PAGES: u32 = 65_536;
 
 // Whether an entry is a commit, under guards or without.
-fn is_commit(entry: &Entry) -> bool
+fn is_commit(entry: &TrailEntry) -> bool
     ensures { result ≡ is_commit entry.now.step }
 {
     matches!(
@@ -41,14 +41,14 @@ fn is_commit(entry: &Entry) -> bool
 }
 
 // Whether an entry was answered with a number.
-fn is_numbered(entry: &Entry) -> bool
+fn is_numbered(entry: &TrailEntry) -> bool
     ensures { result ≡ is_number (told_in entry.now.reply entry.now.result) }
 {
     matches!(entry.reply(), Reply::Number(_))
 }
 
 // Whether an entry is a commit that was answered with a number.
-fn is_accepted(entry: &Entry) -> bool
+fn is_accepted(entry: &TrailEntry) -> bool
     ensures { result ≡ is_accepted entry.now }
 {
     is_commit(entry) && is_numbered(entry)
@@ -66,7 +66,7 @@ pub(crate) fn accepted_in(trail: &Trail) -> u64
 }
 
 // Whether an entry is a piece of work.
-fn is_piece(entry: &Entry) -> bool
+fn is_piece(entry: &TrailEntry) -> bool
     ensures { result ≡ is_piece entry.now }
 {
     !entry.is_call()

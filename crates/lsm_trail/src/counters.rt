@@ -5,7 +5,7 @@ ghost use Rattle.lsm_trail.specs.History.{IsLegal, entries_by, numbers};
 ghost use Rattle.lsm_trail.specs.Knowledge.{known, Sees, keeping, view_of, IsClientPass, IsKeeperPass, IsToldPass, HasBoth, known_of, keeper_of, told_to, row_of};
 ghost use Rattle.lsm_trail.specs.Steps.{published};
 
-use crate::entry::Entry;
+use crate::entry::TrailEntry;
 use crate::knowledge::Pass;
 use crate::numbers::Numbers;
 use crate::rule::{
@@ -80,7 +80,7 @@ impl<D: Device, A: Allocator, B: SessionName> Counters<D, A, B> {
     }
 
     // Makes the history longer by the entry.
-    fn publish(&self, keeper: &mut Pass<A>, count: usize, entry: &Entry<A>)
+    fn publish(&self, keeper: &mut Pass<A>, count: usize, entry: &TrailEntry<A>)
         requires pass { HasBoth B.id (keeper_of keeper.old) (known_of keeper.old) keeper.old }
         requires draft { (keeper_of keeper.old).draft
             ≡ row_of (numbers B.id.begin ((keeper_of keeper.old).log ++ entry.now ∷ [])) }
@@ -108,7 +108,7 @@ impl<D: Device, A: Allocator, B: SessionName> Counters<D, A, B> {
         client: &mut Pass<A>,
         count: usize,
         next: Numbers,
-        entry: &Entry<A>,
+        entry: &TrailEntry<A>,
     )
         requires keeper { IsKeeperPass B.id (keeper_of keeper.old).log keeper.old }
         requires client { IsClientPass B.id client.old }

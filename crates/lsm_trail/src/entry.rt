@@ -24,14 +24,14 @@ const PARTS: u64 = 4;
 /// A step that a client made, a call or a piece of work, and its reply. Of a build the reply is the number that its result has,
 /// or why no input was lent to it.
 #[derive(Drop)]
-pub struct Entry<A: Allocator = Global> {
+pub struct TrailEntry<A: Allocator = Global> {
     client: u32,
     step: Step<A>,
     reply: Reply<A>,
     beside: Beside,
 }
 
-impl<A: Allocator> Model for Entry<A> {
+impl<A: Allocator> Model for TrailEntry<A> {
     ghost use Rattle.std.specs.Coded.{codes};
     ghost use Rattle.lsm_codec.specs.Map.{map_code};
     ghost use Rattle.lsm_lives.specs.Calls.{asked_of, reply_of, told_of};
@@ -47,19 +47,19 @@ impl<A: Allocator> Model for Entry<A> {
     ghost invariant = { λ e. MayBeEntered (asked_of e.step) (told_of e.reply) };
 }
 
-impl<A: Allocator> Entry<A> {
+impl<A: Allocator> TrailEntry<A> {
     /// The entry of a client's call, after which the store is so.
     pub fn of_call<D: Device>(
         client: u32,
         call: Call<A>,
         reply: Reply<A>,
         store: &Store<D, A>,
-    ) -> Entry<A>
+    ) -> TrailEntry<A>
         requires { told_of reply ≡ Replied (reply_of reply) }
         ensures { result ≡ called client (call_of call)
             (reply_in (call_of call) store.now.state (reply_of reply)) (machine_of store.now) }
     {
-        Entry {
+        TrailEntry {
             client,
             step: Step::Call(call),
             reply,
@@ -73,12 +73,12 @@ impl<A: Allocator> Entry<A> {
         work: Work,
         reply: Reply<A>,
         store: &Store<D, A>,
-    ) -> Entry<A>
+    ) -> TrailEntry<A>
         requires { MayBeEntered (asked_of_work work) (told_of reply) }
         ensures { (piece : Piece) → asked_of_work work ≡ Own (Worked piece)
             → result ≡ worked client piece (reply_of reply) (machine_of store.now) }
     {
-        Entry {
+        TrailEntry {
             client,
             step: Step::Work(work),
             reply,
@@ -93,10 +93,10 @@ impl<A: Allocator> Entry<A> {
         number: u64,
         input: &Input<A>,
         store: &Store<D, A>,
-    ) -> Entry<A>
+    ) -> TrailEntry<A>
         ensures { result ≡ lent_to client job input.now number (machine_of store.now) }
     {
-        Entry {
+        TrailEntry {
             client,
             step: Step::Work(Work::Build { job, parts: PARTS }),
             reply: Reply::Number(number),
@@ -110,10 +110,10 @@ impl<A: Allocator> Entry<A> {
         job: u64,
         refusal: Refusal,
         store: &Store<D, A>,
-    ) -> Entry<A>
+    ) -> TrailEntry<A>
         ensures { result ≡ worked client (Ask job) (Refused refusal) (machine_of store.now) }
     {
-        Entry {
+        TrailEntry {
             client,
             step: Step::Work(Work::Build { job, parts: PARTS }),
             reply: Reply::Refused(refusal),
@@ -129,12 +129,12 @@ impl<A: Allocator> Entry<A> {
         built: &Built<A>,
         reply: Reply<A>,
         store: &Store<D, A>,
-    ) -> Entry<A>
+    ) -> TrailEntry<A>
         requires { told_of reply ≡ Replied (reply_of reply) }
         ensures { result ≡ accepted client job number built.now (reply_of reply)
             (machine_of store.now) }
     {
-        Entry {
+        TrailEntry {
             client,
             step: Step::Work(Work::Accept {
                 job,

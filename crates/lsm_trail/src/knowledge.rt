@@ -1,6 +1,6 @@
 // What threads carry along with the words of a session.
 
-use crate::entry::Entry;
+use crate::entry::TrailEntry;
 use atomic_table::Seat;
 use std::alloc::Global;
 use std::marker::Model;
@@ -21,4 +21,4 @@ impl Model for Knowledge {
 }
 
 /// The right to write or read the words of a session, with what its holder knows. It has no bytes.
-pub type Pass<A = Global> = Seat<Entry<A>, Knowledge>;
+pub type Pass<A = Global> = Seat<TrailEntry<A>, Knowledge>;

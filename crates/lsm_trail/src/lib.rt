@@ -13,7 +13,7 @@ mod start;
 mod trail;
 
 pub use counters::Counters;
-pub use entry::Entry;
+pub use entry::TrailEntry;
 pub use knowledge::{Knowledge, Pass};
 pub use numbers::Numbers;
 pub use opened::Opened;

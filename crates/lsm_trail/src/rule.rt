@@ -1,6 +1,6 @@
 // The steps by which passes write and read the words of a session.
 
-use crate::entry::Entry;
+use crate::entry::TrailEntry;
 use crate::knowledge::Knowledge;
 use crate::start::Start;
 use atomic_table::{Join, Play, Split, Table, TableRule};
@@ -8,12 +8,12 @@ use lsm_device::Device;
 use std::alloc::Allocator;
 
 /// The words of a session.
-pub(crate) type Board<D, A> = Table<Entry<A>, Knowledge, Start<D, A>, Law, A>;
+pub(crate) type Board<D, A> = Table<TrailEntry<A>, Knowledge, Start<D, A>, Law, A>;
 
 /// The words are the numbers of one history, which only grows.
 pub struct Law;
 
-impl<D: Device, A: Allocator> TableRule<Entry<A>, Knowledge, Start<D, A>> for Law {
+impl<D: Device, A: Allocator> TableRule<TrailEntry<A>, Knowledge, Start<D, A>> for Law {
     ghost use Rattle.lsm_trail.specs.Rule.{Kept, first_view};
 
     ghost holds = { Kept };
@@ -24,7 +24,7 @@ impl<D: Device, A: Allocator> TableRule<Entry<A>, Knowledge, Start<D, A>> for La
 /// The lock's holder writes a number of the history to come.
 pub struct Put;
 
-impl<A: Allocator> Play<Entry<A>, Knowledge> for Put {
+impl<A: Allocator> Play<TrailEntry<A>, Knowledge> for Put {
     ghost use Rattle.lsm_trail.specs.Steps.{Puts};
 
     ghost then = { Puts };
@@ -33,7 +33,7 @@ impl<A: Allocator> Play<Entry<A>, Knowledge> for Put {
 /// The lock's holder makes the history longer by a client's entry.
 pub struct Publish;
 
-impl<A: Allocator> Play<Entry<A>, Knowledge> for Publish {
+impl<A: Allocator> Play<TrailEntry<A>, Knowledge> for Publish {
     ghost use Rattle.lsm_trail.specs.Steps.{Publishes};
 
     ghost then = { Publishes };
@@ -42,7 +42,7 @@ impl<A: Allocator> Play<Entry<A>, Knowledge> for Publish {
 /// The lock's holder compares what a client knows with the history.
 pub struct Compare;
 
-impl<A: Allocator> Play<Entry<A>, Knowledge> for Compare {
+impl<A: Allocator> Play<TrailEntry<A>, Knowledge> for Compare {
     ghost use Rattle.lsm_trail.specs.Steps.{Compares};
 
     ghost then = { Compares };
@@ -51,7 +51,7 @@ impl<A: Allocator> Play<Entry<A>, Knowledge> for Compare {
 /// A client sees the history as the lock's holder has it.
 pub struct Note;
 
-impl<A: Allocator> Play<Entry<A>, Knowledge> for Note {
+impl<A: Allocator> Play<TrailEntry<A>, Knowledge> for Note {
     ghost use Rattle.lsm_trail.specs.Steps.{Notes};
 
     ghost then = { Notes };
@@ -60,7 +60,7 @@ impl<A: Allocator> Play<Entry<A>, Knowledge> for Note {
 /// A client reads the length of the history without the lock, and has seen it. It begins with what the client was told.
 pub struct Look;
 
-impl<A: Allocator> Play<Entry<A>, Knowledge> for Look {
+impl<A: Allocator> Play<TrailEntry<A>, Knowledge> for Look {
     ghost use Rattle.lsm_trail.specs.Steps.{Looks};
 
     ghost then = { Looks };
@@ -69,7 +69,7 @@ impl<A: Allocator> Play<Entry<A>, Knowledge> for Look {
 /// A client reads a number of what it has seen.
 pub struct Peek;
 
-impl<A: Allocator> Play<Entry<A>, Knowledge> for Peek {
+impl<A: Allocator> Play<TrailEntry<A>, Knowledge> for Peek {
     ghost use Rattle.lsm_trail.specs.Steps.{Peeks};
 
     ghost then = { Peeks };

@@ -2,14 +2,14 @@
 ghost use Rattle.std.specs.Prelude.{◌≡◌, ◌==◌, ◌<◌, [], ◌∷◌, ◌++◌, length, IfOk};
 ghost use Rattle.std.specs.Vec.{vec_capacity};
 
-use crate::entry::Entry;
+use crate::entry::TrailEntry;
 use std::alloc::{AllocError, Allocator, Global};
 use std::marker::Model;
 
 /// The entries of a history, in order. All places are made at once, so that an entry takes no memory.
 #[derive(Drop)]
 pub struct Trail<A: Allocator = Global> {
-    entries: Vec<Entry<A>, A>,
+    entries: Vec<TrailEntry<A>, A>,
     limit: usize,
 }
 
@@ -43,7 +43,7 @@ impl<A: Allocator> Trail<A> {
     }
 
     /// The trail of these entries, with the places that their vector has.
-    pub fn from_entries(entries: Vec<Entry<A>, A>) -> Trail<A>
+    pub fn from_entries(entries: Vec<TrailEntry<A>, A>) -> Trail<A>
         ensures { result ≡ record { log = entries.items; limit = vec_capacity entries } }
     {
         let limit = entries.capacity();
@@ -72,7 +72,7 @@ impl<A: Allocator> Trail<A> {
     }
 
     /// One entry more.
-    pub fn push(&mut self, entry: Entry<A>)
+    pub fn push(&mut self, entry: TrailEntry<A>)
         requires { length self.old.log < self.old.limit }
         ensures { self.new ≡ record { log = self.old.log ++ entry ∷ []; limit = self.old.limit } }
     {
@@ -80,14 +80,14 @@ impl<A: Allocator> Trail<A> {
     }
 
     /// The entries.
-    pub fn entries(&self) -> &[Entry<A>]
+    pub fn entries(&self) -> &[TrailEntry<A>]
         ensures { result.now ≡ self.now.log }
     {
         self.entries.as_slice()
     }
 
     /// The entries, without taking memory.
-    pub fn into_entries(self) -> Vec<Entry<A>, A>
+    pub fn into_entries(self) -> Vec<TrailEntry<A>, A>
         ensures { result.items ≡ self.log }
     {
         let Trail { entries, .. } = self;

@@ -2,7 +2,7 @@
 
 use lsm_device::Refusal;
 use lsm_lives::{Call, Step as Made, Work};
-use lsm_trail::{Entry, Trail};
+use lsm_trail::{Trail, TrailEntry};
 use std::alloc::{Allocator, Global};
 use test_compared_steps::asking::told_step;
 use test_compared_steps::plain::{Answer, Step};
@@ -59,7 +59,7 @@ fn is_of<A: Allocator>(made: &Made<A>, step: Step) -> bool {
     }
 }
 
-fn is_as_wanted<A: Allocator>(entry: &Entry<A>, wanted: Wanted) -> bool {
+fn is_as_wanted<A: Allocator>(entry: &TrailEntry<A>, wanted: Wanted) -> bool {
     entry.client() == wanted.client
         && is_of(entry.step(), wanted.step)
         && told_step(entry.reply(), wanted.step) == wanted.answer

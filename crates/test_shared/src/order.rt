@@ -6,7 +6,7 @@ use crate::setup::small;
 use lsm_device::MemDevice;
 use lsm_lives::{Call, Reply, Step};
 use lsm_shared::{Client, Seen, Shared};
-use lsm_trail::{Entry, SessionName};
+use lsm_trail::{SessionName, TrailEntry};
 use std::alloc::Global;
 use std::hint::spin_loop;
 use std::process::Abort;
@@ -96,7 +96,7 @@ pub fn go_in_rounds<B: SessionName + Send + Sync, R: Threads + Wait + Abort + Sy
 }
 
 // Whether an entry is the commit of a turn, counted from 0: the batch of the next number.
-fn is_of_turn(entry: &Entry, turn: u32) -> bool {
+fn is_of_turn(entry: &TrailEntry, turn: u32) -> bool {
     entry.client() == turn % CLIENTS
         && matches!(entry.step(), Step::Call(Call::Commit(_)))
         && matches!(entry.reply(), Reply::Number(n) if *n == u64::from(turn) + 1)

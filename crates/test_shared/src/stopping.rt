@@ -6,7 +6,7 @@ use lsm_device::{MemDevice, Refusal};
 use lsm_lives::{Call, Reply};
 use lsm_shared::{Client, Shared};
 use lsm_store::{At, Store};
-use lsm_trail::{Entry, SessionName, Trail};
+use lsm_trail::{SessionName, Trail, TrailEntry};
 use std::alloc::Global;
 use std::process::Abort;
 use std::sync::Wait;
@@ -54,7 +54,7 @@ pub fn commit_on<B: SessionName + Send + Sync, R: Threads + Wait + Abort + Sync>
 }
 
 // Whether the entry at a place of the trail, counted from 0, is answered as it must be.
-fn is_answered(entry: &Entry, place: u64) -> bool {
+fn is_answered(entry: &TrailEntry, place: u64) -> bool {
     match entry.reply() {
         Reply::Number(number) => place < FUSE && *number == place + 1,
         Reply::Refused(Refusal::Io) => place == FUSE,

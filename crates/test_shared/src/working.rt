@@ -11,7 +11,7 @@ use lsm_device::{MemDevice, Refusal};
 use lsm_lives::{Call, Reply, Step, Work};
 use lsm_merge::{Input, build};
 use lsm_shared::{Client, Shared, Turn};
-use lsm_trail::{Entry, SessionName, Trail};
+use lsm_trail::{SessionName, Trail, TrailEntry};
 use std::alloc::Global;
 use std::process::Abort;
 use std::sync::{Arc, Wait};
@@ -115,7 +115,7 @@ pub fn build_twice<B: SessionName, R: Threads + Wait + Abort + Sync>(
 }
 
 // Who made an entry, and what it is of, with its reply.
-fn told(entry: &Entry) -> (u32, &'static str) {
+fn told(entry: &TrailEntry) -> (u32, &'static str) {
     let kind = match (entry.step(), entry.reply()) {
         (Step::Call(Call::Commit(_)), Reply::Number(_)) => "commit",
         (Step::Call(Call::Sync), Reply::Done) => "sync",
@@ -188,7 +188,7 @@ fn a_client_looks_anew(rt: HostRuntime) {
 }
 
 // How an accept in a trail was answered, if no other way than that it is done or comes too late: whether it is done.
-fn is_accepted(entry: &Entry) -> Option<bool> {
+fn is_accepted(entry: &TrailEntry) -> Option<bool> {
     match (entry.step(), entry.reply()) {
         (Step::Work(Work::Accept { .. }), Reply::Done) => Some(true),
         (
