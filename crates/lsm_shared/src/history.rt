@@ -17,7 +17,7 @@ use std::marker::{Model, PhantomData};
 /// The entries so far, the pass that writes the words, and how many of the entries are calls, and builds that were lent an
 /// input. Contracts see the entries.
 #[derive(Drop)]
-pub(crate) struct History<A: Allocator, B: SessionName> {
+pub(crate) struct SessionHistory<A: Allocator, B: SessionName> {
     trail: Trail<A>,
     keeper: Pass<A>,
     calls: u64,
@@ -25,7 +25,7 @@ pub(crate) struct History<A: Allocator, B: SessionName> {
     name: PhantomData<B>,
 }
 
-impl<A: Allocator, B: SessionName> Model for History<A, B> {
+impl<A: Allocator, B: SessionName> Model for SessionHistory<A, B> {
     ghost use Rattle.std.specs.Coded.{codes};
     ghost use Rattle.std.specs.Prelude.{List};
     ghost use Rattle.lsm_codec.specs.Map.{map_code};
@@ -49,9 +49,9 @@ fn counted(count: u64, is_one: bool) -> u64
     if is_one { count + 1 } else { count }
 }
 
-impl<A: Allocator, B: SessionName> History<A, B> {
+impl<A: Allocator, B: SessionName> SessionHistory<A, B> {
     /// A history with no entry, whose clients are dealt.
-    pub(crate) fn new(trail: Trail<A>, keeper: Pass<A>) -> History<A, B>
+    pub(crate) fn new(trail: Trail<A>, keeper: Pass<A>) -> SessionHistory<A, B>
         requires keeper { IsKeeperPass B.id [] keeper
             × ((keeper_of keeper).dealt ≡ B.id.begin.clients) }
         requires legal { IsLegal B.id.begin [] }
@@ -59,7 +59,7 @@ impl<A: Allocator, B: SessionName> History<A, B> {
         requires small { B.id.begin.limit ≤ 65536 }
         ensures { result ≡ [] }
     {
-        History {
+        SessionHistory {
             trail,
             keeper,
             calls: 0,
@@ -143,7 +143,7 @@ impl<A: Allocator, B: SessionName> History<A, B> {
         ensures legal { IsLegal B.id.begin self }
         ensures room { length self ≤ B.id.begin.limit }
     {
-        let History { trail, .. } = self;
+        let SessionHistory { trail, .. } = self;
         trail
     }
 }

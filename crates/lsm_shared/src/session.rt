@@ -10,7 +10,7 @@ ghost use Rattle.lsm_shared.specs.Sessions.{IsPinned, IsDeviceAfter, Finds, IsMa
 
 use crate::answer::answer_of;
 use crate::client::Client;
-use crate::history::History;
+use crate::history::SessionHistory;
 use lsm_device::{Device, Refusal};
 use lsm_lives::{Call, Reply, serve};
 use lsm_store::Store;
@@ -23,7 +23,7 @@ use std::marker::Model;
 pub struct Session<D: Device, A: Allocator, B: SessionName> {
     pub(crate) store: Store<D, A>,
     pub(crate) base: u64,
-    pub(crate) history: History<A, B>,
+    pub(crate) history: SessionHistory<A, B>,
 }
 
 impl<D: Device, A: Allocator, B: SessionName> Model for Session<D, A, B> {
@@ -55,7 +55,7 @@ impl<D: Device, A: Allocator, B: SessionName> Session<D, A, B> {
         requires small { B.id.begin.limit ≤ 65536 }
         ensures { result ≡ record { store = store; log = [] } }
     {
-        let history = History::new(trail, keeper);
+        let history = SessionHistory::new(trail, keeper);
         Session {
             store,
             base,

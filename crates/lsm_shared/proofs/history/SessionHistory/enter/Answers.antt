@@ -1,5 +1,5 @@
 use Rattle.lsm_shared.proofs.Keeping.{calls_fit, builds_fit, numbers_with, legal_with, history_with, legal_pushed}
-use Rattle.lsm_shared.proofs.history.History.enter.Goals as goal
+use Rattle.lsm_shared.proofs.history.SessionHistory.enter.Goals as goal
 
 pub counted-self-inside-requires : goal.counted-self-inside-requires
 counted-self-inside-requires g c = calls_fit _ _ _ _ _ c.self.invariant _ c.self.view_is c.requires.room
