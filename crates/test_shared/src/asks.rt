@@ -35,7 +35,7 @@ pub enum Ask {
 
 /// What it is told.
 #[derive(Clone, Copy, PartialEq, Eq)]
-pub enum Told {
+pub enum Outcome {
     Number(u64),
     Done,
     /// Its turn did a piece of work.
@@ -55,7 +55,7 @@ pub enum Told {
 }
 
 /// The number of a client, what it asks, and what it must be told.
-pub type Asked = (usize, Ask, Told);
+pub type Exchange = (usize, Ask, Outcome);
 
 /// What a client is told of a call.
 pub fn call<B: SessionName, R: Wait>(
@@ -63,12 +63,12 @@ pub fn call<B: SessionName, R: Wait>(
     shared: &Shared<MemDevice, Global, B>,
     me: &mut Client<Global, B>,
     call: Call,
-) -> Told {
+) -> Outcome {
     match me.call(rt, shared, call) {
-        Ok(Reply::Number(number)) => Told::Number(number),
-        Ok(Reply::Done) => Told::Done,
-        Ok(_) => Told::Other,
-        Err(refusal) => Told::Refused(refusal),
+        Ok(Reply::Number(number)) => Outcome::Number(number),
+        Ok(Reply::Done) => Outcome::Done,
+        Ok(_) => Outcome::Other,
+        Err(refusal) => Outcome::Refused(refusal),
     }
 }
 
@@ -77,11 +77,11 @@ fn turn<B: SessionName, R: Wait>(
     rt: &R,
     shared: &Shared<MemDevice, Global, B>,
     me: &mut Client<Global, B>,
-) -> Told {
+) -> Outcome {
     match me.turn(rt, shared) {
-        Ok(Turn::Idle) => Told::Idle,
-        Ok(Turn::Did(_)) => Told::Did,
-        _ => Told::Other,
+        Ok(Turn::Idle) => Outcome::Idle,
+        Ok(Turn::Did(_)) => Outcome::Did,
+        _ => Outcome::Other,
     }
 }
 
@@ -90,12 +90,12 @@ fn turn_due<B: SessionName, R: Wait>(
     rt: &R,
     shared: &Shared<MemDevice, Global, B>,
     me: &mut Client<Global, B>,
-) -> Told {
+) -> Outcome {
     match me.turn_due(rt, shared) {
-        Ok(Turn::Idle) => Told::Idle,
-        Ok(Turn::Did(_)) => Told::Did,
-        Ok(Turn::Merge { job, .. }) => Told::Lent(job),
-        Err(refusal) => Told::Refused(refusal),
+        Ok(Turn::Idle) => Outcome::Idle,
+        Ok(Turn::Did(_)) => Outcome::Did,
+        Ok(Turn::Merge { job, .. }) => Outcome::Lent(job),
+        Err(refusal) => Outcome::Refused(refusal),
     }
 }
 
@@ -105,10 +105,10 @@ fn work_on<B: SessionName, R: Threads + Wait + Sync>(
     alloc: Global,
     shared: &Shared<MemDevice, Global, B>,
     me: &mut Client<Global, B>,
-) -> Told {
+) -> Outcome {
     match work(rt, alloc, shared, me, &Policy::new(), 2, 100) {
-        Ok(true) => Told::Idle,
-        _ => Told::Other,
+        Ok(true) => Outcome::Idle,
+        _ => Outcome::Other,
     }
 }
 
@@ -118,12 +118,12 @@ fn take<B: SessionName, R: Wait>(
     shared: &Shared<MemDevice, Global, B>,
     me: &mut Client<Global, B>,
     count: usize,
-) -> Told {
+) -> Outcome {
     match me.take(rt, shared, Choice::OldestRuns { count }) {
-        Ok(None) => Told::NoJob,
-        Ok(Some(Reply::Taken(Some(_)))) => Told::Did,
-        Ok(Some(_)) => Told::Other,
-        Err(refusal) => Told::Refused(refusal),
+        Ok(None) => Outcome::NoJob,
+        Ok(Some(Reply::Taken(Some(_)))) => Outcome::Did,
+        Ok(Some(_)) => Outcome::Other,
+        Err(refusal) => Outcome::Refused(refusal),
     }
 }
 
@@ -131,9 +131,9 @@ fn take<B: SessionName, R: Wait>(
 fn watch<B: SessionName>(
     shared: &Shared<MemDevice, Global, B>,
     me: &mut Client<Global, B>,
-) -> Told {
+) -> Outcome {
     let numbers = me.watch(shared);
-    Told::Numbers(numbers.calls, numbers.batches, numbers.synced)
+    Outcome::Numbers(numbers.calls, numbers.batches, numbers.synced)
 }
 
 /// Has clients do what a table says.
@@ -142,7 +142,7 @@ pub fn ask_all<B: SessionName, R: Threads + Wait + Abort + Sync>(
     alloc: Global,
     shared: &Shared<MemDevice, Global, B>,
     clients: &mut [Client<Global, B>],
-    table: &[Asked],
+    table: &[Exchange],
 ) {
     for (client, ask, wanted) in table {
         let me = clients.get_mut(*client).expect(rt, "a client");

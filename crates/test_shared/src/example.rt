@@ -1,6 +1,6 @@
 //! The whole callers of the library `example_shared`.
 
-use crate::asks::{Ask, Asked, Told};
+use crate::asks::{Ask, Exchange, Outcome};
 use crate::sessions::{Deeds, lead};
 use crate::setup::{put, small};
 use example_shared::{in_three_threads, put_in_rounds, share, share_beside_a_worker};
@@ -34,9 +34,9 @@ fn two_clients_find_both_values(rt: HostRuntime) {
 }
 
 // A sealed memory table, which waits for its flush.
-const WAITING: &[Asked] = &[
-    (0, Ask::Put(0x61), Told::Number(1)),
-    (0, Ask::Rotate, Told::Done),
+const WAITING: &[Exchange] = &[
+    (0, Ask::Put(0x61), Outcome::Number(1)),
+    (0, Ask::Rotate, Outcome::Done),
 ];
 
 // What is left of a small store with such a table once two clients and a worker shared it.

@@ -1,31 +1,31 @@
 //! Flushes that come before merges.
 
-use crate::asks::{Ask, Asked, Told};
+use crate::asks::{Ask, Exchange, Outcome};
 use crate::sessions::{Deeds, lead};
 use crate::setup::small;
 
 // Client 1, whose turns begin at slot 1, takes a flush into slot 0 and then a merge into slot 1.
-const BEFORE_A_MERGE: &[Asked] = &[
-    (0, Ask::Put(0x61), Told::Number(1)),
-    (0, Ask::Rotate, Told::Done),
-    (0, Ask::Work, Told::Idle),
-    (0, Ask::Put(0x62), Told::Number(2)),
-    (0, Ask::Rotate, Told::Done),
-    (1, Ask::Due, Told::Did),
-    (1, Ask::Take(1), Told::Did),
-    (1, Ask::Due, Told::Lent(2)),
+const BEFORE_A_MERGE: &[Exchange] = &[
+    (0, Ask::Put(0x61), Outcome::Number(1)),
+    (0, Ask::Rotate, Outcome::Done),
+    (0, Ask::Work, Outcome::Idle),
+    (0, Ask::Put(0x62), Outcome::Number(2)),
+    (0, Ask::Rotate, Outcome::Done),
+    (1, Ask::Due, Outcome::Did),
+    (1, Ask::Take(1), Outcome::Did),
+    (1, Ask::Due, Outcome::Lent(2)),
 ];
 
 // Client 0, whose turns begin at slot 0, takes a merge into it and then a flush into slot 1.
-const BEHIND_A_MERGE: &[Asked] = &[
-    (0, Ask::Put(0x61), Told::Number(1)),
-    (0, Ask::Rotate, Told::Done),
-    (0, Ask::Work, Told::Idle),
-    (0, Ask::Put(0x62), Told::Number(2)),
-    (0, Ask::Take(1), Told::Did),
-    (0, Ask::Rotate, Told::Done),
-    (0, Ask::Due, Told::Did),
-    (0, Ask::Due, Told::Lent(3)),
+const BEHIND_A_MERGE: &[Exchange] = &[
+    (0, Ask::Put(0x61), Outcome::Number(1)),
+    (0, Ask::Rotate, Outcome::Done),
+    (0, Ask::Work, Outcome::Idle),
+    (0, Ask::Put(0x62), Outcome::Number(2)),
+    (0, Ask::Take(1), Outcome::Did),
+    (0, Ask::Rotate, Outcome::Done),
+    (0, Ask::Due, Outcome::Did),
+    (0, Ask::Due, Outcome::Lent(3)),
 ];
 
 #[test]

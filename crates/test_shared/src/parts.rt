@@ -1,6 +1,6 @@
 //! What clients of a session do at the same time, each in a thread of its own.
 
-use crate::asks::{Told, call};
+use crate::asks::{Outcome, call};
 use crate::setup::put;
 use example_shared::raise;
 use lsm_device::MemDevice;
@@ -54,7 +54,12 @@ pub fn commit<B: SessionName, R: Wait + Abort>(
 ) {
     let key = key_of(me.number(), number);
     let batch = put(alloc, &key, &key).expect(rt, "a batch");
-    assert!(rt; matches!(call(rt, shared, me, Call::Commit(batch)), Told::Number(_)));
+    assert!(rt;
+        matches!(
+            call(rt, shared, me, Call::Commit(batch)),
+            Outcome::Number(_)
+        )
+    );
 }
 
 // The numbers of the history, which never fall behind those that a client read before.

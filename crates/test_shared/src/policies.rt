@@ -1,6 +1,6 @@
 //! Workers that go by a policy.
 
-use crate::asks::{Ask, Asked, Told, ask_all};
+use crate::asks::{Ask, Exchange, Outcome, ask_all};
 use crate::sessions::{Deeds, lead};
 use crate::setup::small;
 use lsm_device::MemDevice;
@@ -59,8 +59,8 @@ fn fill<B: SessionName, R: Threads + Wait + Abort + Sync>(
 ) {
     for (key, number) in [(0x61, 1), (0x62, 2), (0x63, 3)] {
         let table = [
-            (0, Ask::Put(key), Told::Number(number)),
-            (0, Ask::Rotate, Told::Done),
+            (0, Ask::Put(key), Outcome::Number(number)),
+            (0, Ask::Rotate, Outcome::Done),
         ];
         ask_all(rt, alloc, shared, clients, &table);
         let me = clients.first_mut().expect(rt, "a client");
@@ -68,9 +68,9 @@ fn fill<B: SessionName, R: Threads + Wait + Abort + Sync>(
     }
 }
 
-const FOURTH: &[Asked] = &[
-    (1, Ask::Put(0x64), Told::Number(4)),
-    (1, Ask::Rotate, Told::Done),
+const FOURTH: &[Exchange] = &[
+    (1, Ask::Put(0x64), Outcome::Number(4)),
+    (1, Ask::Rotate, Outcome::Done),
 ];
 
 /// Each of three tables of level 1 may go down, and one does, in slot 0. Client 0, whose turns begin there, takes one turn more once a

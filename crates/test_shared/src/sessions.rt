@@ -2,7 +2,7 @@
 
 ghost use Rattle.std.specs.Prelude.{◌≡◌};
 
-use crate::asks::{Asked, ask_all};
+use crate::asks::{Exchange, ask_all};
 use crate::order::go_in_rounds;
 use crate::parts::{Part, at_once};
 use crate::policies::go_by_policies;
@@ -23,9 +23,9 @@ use std::thread::Threads;
 #[derive(Clone, Copy)]
 pub enum Deeds<'a> {
     /// What a table says.
-    Asks(&'a [Asked]),
+    Asks(&'a [Exchange]),
     /// The same, and then all of them do their part at the same time.
-    AtOnce(&'a [Asked], Part),
+    AtOnce(&'a [Exchange], Part),
     /// Two of them build one result.
     BuildTwice,
     /// One of them works by policies.

@@ -1,6 +1,6 @@
 //! How many clients a session may have, and how many places its trail.
 
-use crate::asks::{Ask, Asked, Told};
+use crate::asks::{Ask, Exchange, Outcome};
 use crate::sessions::{Deeds, lead};
 use crate::setup::small;
 use lsm_device::Refusal;
@@ -38,29 +38,29 @@ fn a_session_has_1_to_64_clients_and_1_to_65536_places(rt: HostRuntime) {
 }
 
 // An idle turn takes no place, and a call that finds none changes no number.
-const TWO_PLACES: &[Asked] = &[
-    (0, Ask::Turn, Told::Idle),
-    (0, Ask::Watch, Told::Numbers(0, 0, 0)),
-    (0, Ask::Put(0x61), Told::Number(1)),
-    (0, Ask::Watch, Told::Numbers(1, 1, 0)),
-    (0, Ask::Sync, Told::Done),
-    (0, Ask::Watch, Told::Numbers(2, 1, 1)),
-    (0, Ask::Put(0x62), Told::Refused(Refusal::TrailFull)),
-    (0, Ask::Watch, Told::Numbers(2, 1, 1)),
+const TWO_PLACES: &[Exchange] = &[
+    (0, Ask::Turn, Outcome::Idle),
+    (0, Ask::Watch, Outcome::Numbers(0, 0, 0)),
+    (0, Ask::Put(0x61), Outcome::Number(1)),
+    (0, Ask::Watch, Outcome::Numbers(1, 1, 0)),
+    (0, Ask::Sync, Outcome::Done),
+    (0, Ask::Watch, Outcome::Numbers(2, 1, 1)),
+    (0, Ask::Put(0x62), Outcome::Refused(Refusal::TrailFull)),
+    (0, Ask::Watch, Outcome::Numbers(2, 1, 1)),
 ];
 
 // Client 1 makes no call.
-const WITH_ANOTHER: &[Asked] = &[
-    (0, Ask::Put(0x61), Told::Number(1)),
-    (1, Ask::Watch, Told::Numbers(1, 1, 0)),
+const WITH_ANOTHER: &[Exchange] = &[
+    (0, Ask::Put(0x61), Outcome::Number(1)),
+    (1, Ask::Watch, Outcome::Numbers(1, 1, 0)),
 ];
 
 // The base has the number 1.
-const ONE_PLACE: &[Asked] = &[
-    (0, Ask::Release(1), Told::Refused(Refusal::NotYours)),
-    (0, Ask::Put(0x61), Told::Number(1)),
-    (0, Ask::Sync, Told::Refused(Refusal::TrailFull)),
-    (0, Ask::Release(1), Told::Refused(Refusal::TrailFull)),
+const ONE_PLACE: &[Exchange] = &[
+    (0, Ask::Release(1), Outcome::Refused(Refusal::NotYours)),
+    (0, Ask::Put(0x61), Outcome::Number(1)),
+    (0, Ask::Sync, Outcome::Refused(Refusal::TrailFull)),
+    (0, Ask::Release(1), Outcome::Refused(Refusal::TrailFull)),
 ];
 
 #[test]

@@ -3,7 +3,7 @@
 ghost use Rattle.std.specs.Arc.{arc_value};
 ghost use Rattle.lsm_shared.specs.Turns.{WasLent};
 
-use crate::asks::{Ask, Asked, Told, ask_all};
+use crate::asks::{Ask, Exchange, Outcome, ask_all};
 use crate::parts::Part;
 use crate::sessions::{Deeds, lead};
 use crate::setup::{put, small};
@@ -56,17 +56,17 @@ fn bring<B: SessionName, R: Threads + Wait + Abort + Sync>(
         .expect(rt, "a reply");
 }
 
-const BEFORE: &[Asked] = &[
-    (0, Ask::Turn, Told::Idle),
-    (0, Ask::Put(0x61), Told::Number(1)),
-    (0, Ask::Rotate, Told::Done),
-    (0, Ask::Turn, Told::Did),
+const BEFORE: &[Exchange] = &[
+    (0, Ask::Turn, Outcome::Idle),
+    (0, Ask::Put(0x61), Outcome::Number(1)),
+    (0, Ask::Rotate, Outcome::Done),
+    (0, Ask::Turn, Outcome::Did),
 ];
 
-const BEHIND: &[Asked] = &[
-    (0, Ask::Turn, Told::Did),
-    (0, Ask::Turn, Told::Did),
-    (0, Ask::Turn, Told::Idle),
+const BEHIND: &[Exchange] = &[
+    (0, Ask::Turn, Outcome::Did),
+    (0, Ask::Turn, Outcome::Did),
+    (0, Ask::Turn, Outcome::Idle),
 ];
 
 // Commits a put as a client that was handed out an input. It may still bring the result.
@@ -164,15 +164,15 @@ fn two_clients_build_one_result(rt: HostRuntime) {
 }
 
 // Client 1 makes no call. It reads the numbers of what client 0 did, and is idle until that has rotated.
-const ANEW: &[Asked] = &[
-    (1, Ask::Turn, Told::Idle),
-    (1, Ask::Watch, Told::Numbers(0, 0, 0)),
-    (0, Ask::Put(0x61), Told::Number(1)),
-    (1, Ask::Watch, Told::Numbers(1, 1, 0)),
-    (0, Ask::Sync, Told::Done),
-    (1, Ask::Watch, Told::Numbers(2, 1, 1)),
-    (0, Ask::Rotate, Told::Done),
-    (1, Ask::Turn, Told::Did),
+const ANEW: &[Exchange] = &[
+    (1, Ask::Turn, Outcome::Idle),
+    (1, Ask::Watch, Outcome::Numbers(0, 0, 0)),
+    (0, Ask::Put(0x61), Outcome::Number(1)),
+    (1, Ask::Watch, Outcome::Numbers(1, 1, 0)),
+    (0, Ask::Sync, Outcome::Done),
+    (1, Ask::Watch, Outcome::Numbers(2, 1, 1)),
+    (0, Ask::Rotate, Outcome::Done),
+    (1, Ask::Turn, Outcome::Did),
 ];
 
 #[test]
