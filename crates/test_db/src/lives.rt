@@ -7,7 +7,7 @@ use std::process::Abort;
 
 /// A call, with keys and values of a byte each.
 #[derive(Clone, Copy)]
-pub enum Line {
+pub enum ShortCall {
     Put(u8, u8),
     Delete(u8),
     /// Puts a value where the key has none.
@@ -45,24 +45,24 @@ fn bytes<R: AllocGlobal + Abort>(rt: &R, given: &[u8]) -> Vec<u8> {
     Vec::from_slice(rt.alloc(), given).expect(rt, "bytes")
 }
 
-fn call_of<R: AllocGlobal + Abort>(rt: &R, line: Line) -> DbCall {
-    match line {
-        Line::Put(key, value) => DbCall::Write(batch_of(rt, key, value)),
-        Line::Delete(key) => DbCall::Write(deleting(rt, key)),
-        Line::PutNew(key, value) => DbCall::WriteIf(absent(rt, key), batch_of(rt, key, value)),
-        Line::Get(key) => DbCall::Get(At::Now, bytes(rt, &[key])),
-        Line::GetAt(snapshot, key) => DbCall::Get(At::Snap(snapshot), bytes(rt, &[key])),
-        Line::Rows => DbCall::Page {
+fn call_of<R: AllocGlobal + Abort>(rt: &R, short: ShortCall) -> DbCall {
+    match short {
+        ShortCall::Put(key, value) => DbCall::Write(batch_of(rt, key, value)),
+        ShortCall::Delete(key) => DbCall::Write(deleting(rt, key)),
+        ShortCall::PutNew(key, value) => DbCall::WriteIf(absent(rt, key), batch_of(rt, key, value)),
+        ShortCall::Get(key) => DbCall::Get(At::Now, bytes(rt, &[key])),
+        ShortCall::GetAt(snapshot, key) => DbCall::Get(At::Snap(snapshot), bytes(rt, &[key])),
+        ShortCall::Rows => DbCall::Page {
             at: At::Now,
             from: bytes(rt, &[]),
             to: None,
             limit: 64,
         },
-        Line::Sync => DbCall::Sync,
-        Line::SyncTo(number) => DbCall::SyncTo(number),
-        Line::Snapshot => DbCall::Snapshot,
-        Line::Release(number) => DbCall::Release(number),
-        Line::Compact => DbCall::Compact,
+        ShortCall::Sync => DbCall::Sync,
+        ShortCall::SyncTo(number) => DbCall::SyncTo(number),
+        ShortCall::Snapshot => DbCall::Snapshot,
+        ShortCall::Release(number) => DbCall::Release(number),
+        ShortCall::Compact => DbCall::Compact,
     }
 }
 
@@ -70,12 +70,12 @@ fn call_of<R: AllocGlobal + Abort>(rt: &R, line: Line) -> DbCall {
 pub fn life<R: AllocGlobal + Abort>(
     rt: &R,
     fuse: Option<u64>,
-    lines: &[Line],
+    short_calls: &[ShortCall],
     mask: &[bool],
 ) -> DbLife {
     let mut calls = Vec::new(rt.alloc());
-    for line in lines {
-        calls.push(call_of(rt, *line)).expect(rt, "calls");
+    for short in short_calls {
+        calls.push(call_of(rt, *short)).expect(rt, "calls");
     }
     DbLife {
         fuse,
@@ -86,7 +86,7 @@ pub fn life<R: AllocGlobal + Abort>(
 
 /// A reply that can be compared. A value is told by its only byte, and rows by their count.
 #[derive(Clone, Copy, PartialEq, Eq)]
-pub enum Told {
+pub enum ShortReply {
     Number(u64),
     Done,
     Byte(u8),
@@ -97,22 +97,22 @@ pub enum Told {
     Other,
 }
 
-fn reading_of(reply: &Reply) -> Told {
+fn reading_of(reply: &Reply) -> ShortReply {
     match reply {
-        Reply::Number(n) => Told::Number(*n),
-        Reply::Done => Told::Done,
+        Reply::Number(n) => ShortReply::Number(*n),
+        Reply::Done => ShortReply::Done,
         Reply::Value(Some(value)) => match value.as_slice() {
-            [byte] => Told::Byte(*byte),
-            _ => Told::Other,
+            [byte] => ShortReply::Byte(*byte),
+            _ => ShortReply::Other,
         },
-        Reply::Value(None) => Told::Nothing,
-        Reply::Page(page) => Told::Rows(page.rows().count()),
-        Reply::Refused(refusal) => Told::Refused(*refusal),
-        _ => Told::Other,
+        Reply::Value(None) => ShortReply::Nothing,
+        Reply::Page(page) => ShortReply::Rows(page.rows().count()),
+        Reply::Refused(refusal) => ShortReply::Refused(*refusal),
+        _ => ShortReply::Other,
     }
 }
 
-fn are(lives: &[Vec<Reply>], wanted: &[&[Told]]) -> bool {
+fn are(lives: &[Vec<Reply>], wanted: &[&[ShortReply]]) -> bool {
     let mut all = lives.len() == wanted.len();
     for (replies, wanted) in lives.iter().zip(wanted) {
         all = all && replies.len() == wanted.len();
@@ -124,7 +124,11 @@ fn are(lives: &[Vec<Reply>], wanted: &[&[Told]]) -> bool {
 }
 
 /// Whether just these replies come of lives on a device of 8,192 sectors, with log regions of 128.
-pub fn are_told<R: AllocGlobal + Abort>(rt: &R, given: &[DbLife], wanted: &[&[Told]]) -> bool {
+pub fn are_told<R: AllocGlobal + Abort>(
+    rt: &R,
+    given: &[DbLife],
+    wanted: &[&[ShortReply]],
+) -> bool {
     match lives_of_db(rt, 8_192, 128, given) {
         Ok((replies, _device)) => are(&replies, wanted),
         Err(refusal) => rt.panic(refusal.name()),

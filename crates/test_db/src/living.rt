@@ -1,25 +1,43 @@
 //! Lives with ample memory.
 
-use crate::lives::{Line, Told, are_told, life};
+use crate::lives::{ShortCall, ShortReply, are_told, life};
 use corwaphi::Refusal;
 
 // A batch that is synced and one that is not.
-const PUTS: &[Line] = &[Line::Put(0x61, 0x31), Line::Sync, Line::Put(0x62, 0x32)];
-
-const ADDED: &[Told] = &[
-    Told::Number(0),
-    Told::Number(1),
-    Told::Done,
-    Told::Number(2),
+const PUTS: &[ShortCall] = &[
+    ShortCall::Put(0x61, 0x31),
+    ShortCall::Sync,
+    ShortCall::Put(0x62, 0x32),
 ];
 
-const LOOKS: &[Line] = &[Line::Get(0x61), Line::Get(0x62)];
+const ADDED: &[ShortReply] = &[
+    ShortReply::Number(0),
+    ShortReply::Number(1),
+    ShortReply::Done,
+    ShortReply::Number(2),
+];
+
+const LOOKS: &[ShortCall] = &[ShortCall::Get(0x61), ShortCall::Get(0x62)];
 
 #[test]
 fn what_is_synced_is_found_and_what_is_not_if_the_crash_keeps_it(rt: HostRuntime) {
     for (kept, found) in [
-        (false, [Told::Number(1), Told::Byte(0x31), Told::Nothing]),
-        (true, [Told::Number(2), Told::Byte(0x31), Told::Byte(0x32)]),
+        (
+            false,
+            [
+                ShortReply::Number(1),
+                ShortReply::Byte(0x31),
+                ShortReply::Nothing,
+            ],
+        ),
+        (
+            true,
+            [
+                ShortReply::Number(2),
+                ShortReply::Byte(0x31),
+                ShortReply::Byte(0x32),
+            ],
+        ),
     ] {
         let given = [life(&rt, None, PUTS, &[kept]), life(&rt, None, LOOKS, &[])];
         assert!(rt; are_told(&rt, &given, &[ADDED, &found]));
@@ -29,43 +47,47 @@ fn what_is_synced_is_found_and_what_is_not_if_the_crash_keeps_it(rt: HostRuntime
 // The first call of an opening is a sync.
 #[test]
 fn a_fuse_stops_an_opening_and_nothing_is_lost(rt: HostRuntime) {
-    let stopped = Told::Refused(Refusal::Stopped);
+    let stopped = ShortReply::Refused(Refusal::Stopped);
     let given = [
         life(&rt, None, PUTS, &[]),
         life(&rt, Some(0), LOOKS, &[]),
         life(&rt, None, LOOKS, &[]),
     ];
-    let refused = [Told::Refused(Refusal::Io), stopped, stopped];
-    let found = [Told::Number(1), Told::Byte(0x31), Told::Nothing];
+    let refused = [ShortReply::Refused(Refusal::Io), stopped, stopped];
+    let found = [
+        ShortReply::Number(1),
+        ShortReply::Byte(0x31),
+        ShortReply::Nothing,
+    ];
     assert!(rt; are_told(&rt, &given, &[ADDED, &refused, &found]));
 }
 
 #[test]
 fn each_call_is_answered(rt: HostRuntime) {
-    let lines = [
-        Line::Put(0x61, 0x31),
-        Line::Snapshot,
-        Line::PutNew(0x61, 0x33),
-        Line::PutNew(0x62, 0x32),
-        Line::Delete(0x61),
-        Line::Rows,
-        Line::GetAt(1, 0x61),
-        Line::Release(1),
-        Line::SyncTo(2),
-        Line::Compact,
+    let calls = [
+        ShortCall::Put(0x61, 0x31),
+        ShortCall::Snapshot,
+        ShortCall::PutNew(0x61, 0x33),
+        ShortCall::PutNew(0x62, 0x32),
+        ShortCall::Delete(0x61),
+        ShortCall::Rows,
+        ShortCall::GetAt(1, 0x61),
+        ShortCall::Release(1),
+        ShortCall::SyncTo(2),
+        ShortCall::Compact,
     ];
     let replies = [
-        Told::Number(0),
-        Told::Number(1),
-        Told::Number(1),
-        Told::Refused(Refusal::GuardFailed(0)),
-        Told::Number(2),
-        Told::Number(3),
-        Told::Rows(1),
-        Told::Byte(0x31),
-        Told::Done,
-        Told::Done,
-        Told::Done,
+        ShortReply::Number(0),
+        ShortReply::Number(1),
+        ShortReply::Number(1),
+        ShortReply::Refused(Refusal::GuardFailed(0)),
+        ShortReply::Number(2),
+        ShortReply::Number(3),
+        ShortReply::Rows(1),
+        ShortReply::Byte(0x31),
+        ShortReply::Done,
+        ShortReply::Done,
+        ShortReply::Done,
     ];
-    assert!(rt; are_told(&rt, &[life(&rt, None, &lines, &[])], &[&replies]));
+    assert!(rt; are_told(&rt, &[life(&rt, None, &calls, &[])], &[&replies]));
 }
