@@ -1,7 +1,7 @@
 //! Explorations of which the openings behind a crash are not explored in turn.
 
 use crate::setup::{LOG_SECTORS, SECTORS, formatted, led};
-use crate::steps::{Line, steps_of};
+use crate::steps::{ShortStep, steps_of};
 use lsm_explore::{Explored, explore};
 use lsm_lives::{Life, Reply};
 use lsm_progress::{Milestone, Progress};
@@ -28,8 +28,12 @@ impl Progress for Fuses {
 }
 
 // What an exploration of steps counts, which finds nothing wrong and tells of each fuse.
-fn explored<R: Threads + Sync + Abort>(rt: &R, alloc: Global, lines: &[Line]) -> Explored {
-    let steps = steps_of(rt, alloc, lines);
+fn explored<R: Threads + Sync + Abort>(
+    rt: &R,
+    alloc: Global,
+    short_steps: &[ShortStep],
+) -> Explored {
+    let steps = steps_of(rt, alloc, short_steps);
     let mut fuses = Fuses { told: 0, all: 0 };
     let once = explore(rt, alloc, SECTORS, LOG_SECTORS, &steps, false, &mut fuses).expect(
         rt,
@@ -44,19 +48,19 @@ fn explored<R: Threads + Sync + Abort>(rt: &R, alloc: Global, lines: &[Line]) ->
 }
 
 // As many crashes as the program counts of it, which explores the openings behind them too.
-const A_BATCH: &[Line] = &[Line::Put(0x61, 0x31), Line::Sync];
+const A_BATCH: &[ShortStep] = &[ShortStep::Put(0x61, 0x31), ShortStep::Sync];
 
 // Two batches, a flush of them, and two snapshots with a batch behind each.
-const SNAPSHOTS: &[Line] = &[
-    Line::Put(0x61, 0x31),
-    Line::Put(0x61, 0x32),
-    Line::Rotate,
-    Line::Take,
-    Line::Snapshot,
-    Line::Put(0x61, 0x33),
-    Line::Snapshot,
-    Line::Put(0x61, 0x34),
-    Line::End(1),
+const SNAPSHOTS: &[ShortStep] = &[
+    ShortStep::Put(0x61, 0x31),
+    ShortStep::Put(0x61, 0x32),
+    ShortStep::Rotate,
+    ShortStep::Take,
+    ShortStep::Snapshot,
+    ShortStep::Put(0x61, 0x33),
+    ShortStep::Snapshot,
+    ShortStep::Put(0x61, 0x34),
+    ShortStep::End(1),
 ];
 
 #[test]
@@ -68,33 +72,33 @@ fn a_flush_beside_snapshots_is_explored(rt: HostRuntime) {
 }
 
 // Five flushes, and two merges: of a delete over the put of its key, and then of what is left of them into nothing.
-const MERGES: &[Line] = &[
-    Line::Put(0x61, 0x31),
-    Line::Rotate,
-    Line::Take,
-    Line::End(1),
-    Line::Delete(0x61),
-    Line::Rotate,
-    Line::Take,
-    Line::End(2),
-    Line::Put(0x62, 0x31),
-    Line::Rotate,
-    Line::Take,
-    Line::End(3),
-    Line::Put(0x63, 0x31),
-    Line::Rotate,
-    Line::Take,
-    Line::End(4),
-    Line::Take,
-    Line::Read(5),
-    Line::End(5),
-    Line::Put(0x64, 0x31),
-    Line::Rotate,
-    Line::Take,
-    Line::End(6),
-    Line::Take,
-    Line::Read(7),
-    Line::End(7),
+const MERGES: &[ShortStep] = &[
+    ShortStep::Put(0x61, 0x31),
+    ShortStep::Rotate,
+    ShortStep::Take,
+    ShortStep::End(1),
+    ShortStep::Delete(0x61),
+    ShortStep::Rotate,
+    ShortStep::Take,
+    ShortStep::End(2),
+    ShortStep::Put(0x62, 0x31),
+    ShortStep::Rotate,
+    ShortStep::Take,
+    ShortStep::End(3),
+    ShortStep::Put(0x63, 0x31),
+    ShortStep::Rotate,
+    ShortStep::Take,
+    ShortStep::End(4),
+    ShortStep::Take,
+    ShortStep::Read(5),
+    ShortStep::End(5),
+    ShortStep::Put(0x64, 0x31),
+    ShortStep::Rotate,
+    ShortStep::Take,
+    ShortStep::End(6),
+    ShortStep::Take,
+    ShortStep::Read(7),
+    ShortStep::End(7),
 ];
 
 #[test]
@@ -104,22 +108,22 @@ fn flushes_and_merges_are_explored(rt: HostRuntime) {
 }
 
 // Three flushes, of a put, of its delete and of another put, and a merge of all three runs.
-const THREE_RUNS: &[Line] = &[
-    Line::Put(0x61, 0x31),
-    Line::Rotate,
-    Line::Take,
-    Line::End(1),
-    Line::Delete(0x61),
-    Line::Rotate,
-    Line::Take,
-    Line::End(2),
-    Line::Put(0x62, 0x31),
-    Line::Rotate,
-    Line::Take,
-    Line::End(3),
-    Line::TakeRuns(3),
-    Line::Read(4),
-    Line::End(4),
+const THREE_RUNS: &[ShortStep] = &[
+    ShortStep::Put(0x61, 0x31),
+    ShortStep::Rotate,
+    ShortStep::Take,
+    ShortStep::End(1),
+    ShortStep::Delete(0x61),
+    ShortStep::Rotate,
+    ShortStep::Take,
+    ShortStep::End(2),
+    ShortStep::Put(0x62, 0x31),
+    ShortStep::Rotate,
+    ShortStep::Take,
+    ShortStep::End(3),
+    ShortStep::TakeRuns(3),
+    ShortStep::Read(4),
+    ShortStep::End(4),
 ];
 
 #[test]
@@ -130,38 +134,38 @@ fn a_merge_of_three_runs_is_explored(rt: HostRuntime) {
 
 // Two flushes, each of which goes down and becomes a table of level 1, 2 and 4. The second is rewritten, and then both, which become
 // one, beside a flush.
-const REWRITES: &[Line] = &[
-    Line::Put(0x61, 0x31),
-    Line::Rotate,
-    Line::Take,
-    Line::End(1),
-    Line::TakeRuns(1),
-    Line::Read(2),
-    Line::End(2),
-    Line::Put(0x62, 0x32),
-    Line::Rotate,
-    Line::Take,
-    Line::End(3),
-    Line::TakeRuns(1),
-    Line::Read(4),
-    Line::End(4),
-    Line::Rewrite(4, 4),
-    Line::Read(5),
-    Line::End(5),
-    Line::Put(0x61, 0x33),
-    Line::Rotate,
-    Line::Rewrite(2, 5),
-    Line::Take,
-    Line::Read(6),
-    Line::End(6),
-    Line::End(7),
+const REWRITES: &[ShortStep] = &[
+    ShortStep::Put(0x61, 0x31),
+    ShortStep::Rotate,
+    ShortStep::Take,
+    ShortStep::End(1),
+    ShortStep::TakeRuns(1),
+    ShortStep::Read(2),
+    ShortStep::End(2),
+    ShortStep::Put(0x62, 0x32),
+    ShortStep::Rotate,
+    ShortStep::Take,
+    ShortStep::End(3),
+    ShortStep::TakeRuns(1),
+    ShortStep::Read(4),
+    ShortStep::End(4),
+    ShortStep::Rewrite(4, 4),
+    ShortStep::Read(5),
+    ShortStep::End(5),
+    ShortStep::Put(0x61, 0x33),
+    ShortStep::Rotate,
+    ShortStep::Rewrite(2, 5),
+    ShortStep::Take,
+    ShortStep::Read(6),
+    ShortStep::End(6),
+    ShortStep::End(7),
 ];
 
 // Whether no step is refused, so that each job that is ended was taken.
-fn are_served<R: Threads + Sync + Abort>(rt: &R, alloc: Global, lines: &[Line]) -> bool {
+fn are_served<R: Threads + Sync + Abort>(rt: &R, alloc: Global, short_steps: &[ShortStep]) -> bool {
     let life = Life {
         fuse: None,
-        steps: steps_of(rt, alloc, lines),
+        steps: steps_of(rt, alloc, short_steps),
         mask: Vec::new(alloc),
     };
     match led(rt, alloc, formatted(rt, alloc), &[life]) {

@@ -1,6 +1,6 @@
 //! Growths that memory refuses.
 
-use crate::setup::{Told, are, formatted, led};
+use crate::setup::{PlainReply, are, formatted, led};
 use crate::steps::{get, put};
 use lsm_device::Refusal;
 use lsm_lives::{Call, Life, Step};
@@ -22,11 +22,11 @@ fn life<A: Allocator + Copy>(heap: A) -> Result<Life<A>, Refusal> {
     })
 }
 
-const AMPLE: &[Told] = &[
-    Told::Number(0),
-    Told::Number(1),
-    Told::Done,
-    Told::Byte(0x31),
+const AMPLE: &[PlainReply] = &[
+    PlainReply::Number(0),
+    PlainReply::Number(1),
+    PlainReply::Done,
+    PlainReply::Byte(0x31),
 ];
 
 // How far a life comes on a heap.

@@ -1,7 +1,7 @@
 //! Lives on a device that was not crashed.
 
-use crate::setup::{Told, formatted, left_by};
-use crate::steps::{Line, steps_of};
+use crate::setup::{PlainReply, formatted, left_by};
+use crate::steps::{ShortStep, steps_of};
 use lsm_device::{MemDevice, Refusal};
 use lsm_lives::{Life, replay};
 use lsm_store::Store;
@@ -14,7 +14,11 @@ fn taken_back<R: Threads + Sync + Abort>(rt: &R, alloc: Global) -> MemDevice {
     let steps = steps_of(
         rt,
         alloc,
-        &[Line::Put(0x61, 0x31), Line::Sync, Line::Put(0x62, 0x32)],
+        &[
+            ShortStep::Put(0x61, 0x31),
+            ShortStep::Sync,
+            ShortStep::Put(0x62, 0x32),
+        ],
     );
     match Store::open(alloc, formatted(rt, alloc), 256) {
         Ok(mut store) => {
@@ -29,20 +33,28 @@ fn taken_back<R: Threads + Sync + Abort>(rt: &R, alloc: Global) -> MemDevice {
 fn looking<R: Abort>(rt: &R, alloc: Global, fuse: Option<u64>, mask: &[bool]) -> Life {
     Life {
         fuse,
-        steps: steps_of(rt, alloc, &[Line::Get(0x61), Line::Get(0x62)]),
+        steps: steps_of(rt, alloc, &[ShortStep::Get(0x61), ShortStep::Get(0x62)]),
         mask: Vec::from_slice(alloc, mask).expect(rt, "a mask"),
     }
 }
 
-const BOTH: &[Told] = &[Told::Number(2), Told::Byte(0x31), Told::Byte(0x32)];
+const BOTH: &[PlainReply] = &[
+    PlainReply::Number(2),
+    PlainReply::Byte(0x31),
+    PlainReply::Byte(0x32),
+];
 
-const FIRST: &[Told] = &[Told::Number(1), Told::Byte(0x31), Told::Other];
+const FIRST: &[PlainReply] = &[
+    PlainReply::Number(1),
+    PlainReply::Byte(0x31),
+    PlainReply::Other,
+];
 
 // What two looks find where the opening failed.
-const STOPPED: &[Told] = &[
-    Told::Refused(Refusal::Io),
-    Told::Refused(Refusal::Stopped),
-    Told::Refused(Refusal::Stopped),
+const STOPPED: &[PlainReply] = &[
+    PlainReply::Refused(Refusal::Io),
+    PlainReply::Refused(Refusal::Stopped),
+    PlainReply::Refused(Refusal::Stopped),
 ];
 
 #[test]

@@ -43,7 +43,7 @@ pub fn left_by<R: Threads + Sync + Abort>(
     alloc: Global,
     device: MemDevice,
     given: &[Life],
-    wanted: &[&[Told]],
+    wanted: &[&[PlainReply]],
 ) -> MemDevice {
     match led(rt, alloc, device, given) {
         Ok((replies, device)) => {
@@ -56,7 +56,7 @@ pub fn left_by<R: Threads + Sync + Abort>(
 
 /// A reply that can be compared. A value is told by its only byte.
 #[derive(Clone, Copy, PartialEq, Eq)]
-pub enum Told {
+pub enum PlainReply {
     Number(u64),
     Done,
     Byte(u8),
@@ -65,21 +65,21 @@ pub enum Told {
     Other,
 }
 
-fn reading_of<A: Allocator>(reply: &Reply<A>) -> Told {
+fn reading_of<A: Allocator>(reply: &Reply<A>) -> PlainReply {
     match reply {
-        Reply::Number(n) => Told::Number(*n),
-        Reply::Done => Told::Done,
+        Reply::Number(n) => PlainReply::Number(*n),
+        Reply::Done => PlainReply::Done,
         Reply::Value(Some(value)) => match value.as_slice() {
-            [byte] => Told::Byte(*byte),
-            _ => Told::Other,
+            [byte] => PlainReply::Byte(*byte),
+            _ => PlainReply::Other,
         },
-        Reply::Refused(refusal) => Told::Refused(*refusal),
-        _ => Told::Other,
+        Reply::Refused(refusal) => PlainReply::Refused(*refusal),
+        _ => PlainReply::Other,
     }
 }
 
 /// Whether just these replies came of each life.
-pub fn are<A: Allocator>(lives: &[Vec<Reply<A>, A>], wanted: &[&[Told]]) -> bool {
+pub fn are<A: Allocator>(lives: &[Vec<Reply<A>, A>], wanted: &[&[PlainReply]]) -> bool {
     let mut all = lives.len() == wanted.len();
     for (replies, wanted) in lives.iter().zip(wanted) {
         all = all && replies.len() == wanted.len();

@@ -9,7 +9,7 @@ use std::process::Abort;
 
 /// A step, or those of a whole job.
 #[derive(Clone, Copy)]
-pub enum Line {
+pub enum ShortStep {
     /// A commit of one put of a key and a value of a byte each.
     Put(u8, u8),
     Delete(u8),
@@ -58,29 +58,32 @@ fn end(steps: &mut Vec<Step>, job: u64) -> Result<(), Refusal> {
     Ok(())
 }
 
-fn add(alloc: Global, steps: &mut Vec<Step>, line: Line) -> Result<(), Refusal> {
-    let step = match line {
-        Line::Put(key, value) => put(alloc, &[key], &[value])?,
-        Line::Delete(key) => delete(alloc, &[key])?,
-        Line::Get(key) => get(alloc, &[key])?,
-        Line::Sync => Step::Call(Call::Sync),
-        Line::Snapshot => Step::Call(Call::Snapshot),
-        Line::Rotate => Step::Call(Call::Rotate),
-        Line::Take => Step::Work(Work::Take),
-        Line::TakeRuns(count) => Step::Work(Work::TakeOf(Choice::OldestRuns { count })),
-        Line::Rewrite(first, last) => Step::Work(Work::TakeOf(Choice::Rewrite { first, last })),
-        Line::Read(job) => Step::Work(Work::Read(job)),
-        Line::End(job) => return end(steps, job),
+fn add(alloc: Global, steps: &mut Vec<Step>, short: ShortStep) -> Result<(), Refusal> {
+    let step = match short {
+        ShortStep::Put(key, value) => put(alloc, &[key], &[value])?,
+        ShortStep::Delete(key) => delete(alloc, &[key])?,
+        ShortStep::Get(key) => get(alloc, &[key])?,
+        ShortStep::Sync => Step::Call(Call::Sync),
+        ShortStep::Snapshot => Step::Call(Call::Snapshot),
+        ShortStep::Rotate => Step::Call(Call::Rotate),
+        ShortStep::Take => Step::Work(Work::Take),
+        ShortStep::TakeRuns(count) => Step::Work(Work::TakeOf(Choice::OldestRuns { count })),
+        ShortStep::Rewrite(first, last) => Step::Work(Work::TakeOf(Choice::Rewrite {
+            first,
+            last,
+        })),
+        ShortStep::Read(job) => Step::Work(Work::Read(job)),
+        ShortStep::End(job) => return end(steps, job),
     };
     steps.push(step)?;
     Ok(())
 }
 
 /// The steps of a table.
-pub fn steps_of<R: Abort>(rt: &R, alloc: Global, lines: &[Line]) -> Vec<Step> {
+pub fn steps_of<R: Abort>(rt: &R, alloc: Global, short_steps: &[ShortStep]) -> Vec<Step> {
     let mut steps = Vec::new(alloc);
-    for line in lines {
-        add(alloc, &mut steps, *line).expect(rt, "memory for a step");
+    for short in short_steps {
+        add(alloc, &mut steps, *short).expect(rt, "memory for a step");
     }
     steps
 }

@@ -1,7 +1,7 @@
 //! Reads that fail.
 
 use crate::setup::{LOG_SECTORS, SECTORS};
-use crate::steps::{Line, steps_of};
+use crate::steps::{ShortStep, steps_of};
 use lsm_check::{Finding, Report, check};
 use lsm_device::{Device, MemDevice, Refusal};
 use lsm_lives::{Life, lives_from_format};
@@ -24,17 +24,17 @@ const READS: u64 = 3 + 3 * 8 + 2 + 3 * 128 + 8;
 
 /// The device that a life leaves in which a batch is flushed, and another stays in the log.
 fn left<R: Threads + Sync + Abort>(rt: &R, alloc: Global) -> MemDevice {
-    let lines = [
-        Line::Put(0x61, 0x31),
-        Line::Rotate,
-        Line::Take,
-        Line::End(1),
-        Line::Put(0x62, 0x32),
-        Line::Sync,
+    let short_steps = [
+        ShortStep::Put(0x61, 0x31),
+        ShortStep::Rotate,
+        ShortStep::Take,
+        ShortStep::End(1),
+        ShortStep::Put(0x62, 0x32),
+        ShortStep::Sync,
     ];
     let life = Life {
         fuse: None,
-        steps: steps_of(rt, alloc, &lines),
+        steps: steps_of(rt, alloc, &short_steps),
         mask: Vec::new(alloc),
     };
     let (_replies, device) = lives_from_format(rt, alloc, SECTORS, LOG_SECTORS, &[life]).expect(
