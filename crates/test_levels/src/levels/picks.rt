@@ -1,7 +1,7 @@
 //! Which job comes next, and which may be chosen.
 
-use self::Asked::{Anew, Next, Runs, Tables, Waiting};
-use self::Wanted::{Flush, Merge, Nothing, Rewrite};
+use self::ExpectedPick::{Flush, Merge, Nothing, Rewrite};
+use self::PickQuery::{Anew, Next, Runs, Tables, Waiting};
 use crate::slots::Slots;
 use crate::tables::{Put, have_numbers, levels_of, runs_have_numbers};
 use lsm_levels::{Choice, Levels, Pick};
@@ -9,7 +9,7 @@ use std::process::Abort;
 
 /// What is asked of levels.
 #[derive(Clone, Copy, Debug)]
-enum Asked {
+enum PickQuery {
     /// The job that comes next.
     Next,
     /// The same where sealed versions wait.
@@ -25,7 +25,7 @@ enum Asked {
 /// A job that is wanted: a flush, a merge of a level with the numbers of its upper and lower tables, or a rewrite of the level below
 /// one with the numbers of its tables.
 #[derive(Clone, Copy)]
-enum Wanted<'a> {
+enum ExpectedPick<'a> {
     Nothing,
     Flush,
     Merge(usize, &'a [u64], &'a [u64]),
@@ -33,7 +33,7 @@ enum Wanted<'a> {
 }
 
 /// What is asked where slots are held so, and the job that is wanted.
-type Case = (Asked, Slots, Wanted<'static>);
+type Case = (PickQuery, Slots, ExpectedPick<'static>);
 
 /// Runs of level 0, the oldest first; the levels from 1 on; and cases of them.
 type Shape = (
@@ -43,7 +43,7 @@ type Shape = (
 );
 
 /// Whether a job is the wanted one.
-fn is_wanted(job: &Pick<'_>, wanted: Wanted<'_>) -> bool {
+fn is_wanted(job: &Pick<'_>, wanted: ExpectedPick<'_>) -> bool {
     match (job, wanted) {
         (Pick::Flush, Flush) => true,
         (Pick::OldestRuns { runs, lower }, Merge(0, above, below)) => {
@@ -73,8 +73,8 @@ fn is_wanted(job: &Pick<'_>, wanted: Wanted<'_>) -> bool {
 }
 
 /// The job that is asked for.
-fn answer(levels: &Levels, asked: Asked, held: Slots) -> Option<Pick<'_>> {
-    match asked {
+fn answer(levels: &Levels, query: PickQuery, held: Slots) -> Option<Pick<'_>> {
+    match query {
         Next => levels.pick(false, &held),
         Waiting => levels.pick(true, &held),
         Runs(count) => levels.choose(Choice::OldestRuns { count }, &held),
@@ -84,8 +84,8 @@ fn answer(levels: &Levels, asked: Asked, held: Slots) -> Option<Pick<'_>> {
 }
 
 /// Whether what is asked is answered as it is wanted.
-fn is_answered(levels: &Levels, (asked, held, wanted): Case) -> bool {
-    match answer(levels, asked, held) {
+fn is_answered(levels: &Levels, (query, held, wanted): Case) -> bool {
+    match answer(levels, query, held) {
         Some(job) => is_wanted(&job, wanted),
         None => matches!(wanted, Nothing),
     }

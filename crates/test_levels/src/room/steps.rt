@@ -10,7 +10,7 @@ use std::alloc::{AllocError, Global};
 
 /// What is advised: nothing; a choice with so many divisions, which is sure to find room or not; or that room lacks for a choice.
 #[derive(Clone, Copy, Debug, PartialEq, Eq)]
-enum Told {
+enum Advised {
     Nothing,
     Take(Choice, usize),
     Try(Choice, usize),
@@ -27,28 +27,28 @@ fn standing<'a>(levels: &'a Levels, extents: &'a Extents, held: &'a Slots) -> St
     }
 }
 
-fn as_told(advice: Result<Advice, AllocError>) -> Told {
+fn as_advised(advice: Result<Advice, AllocError>) -> Advised {
     match advice {
-        Ok(Advice::Nothing) => Told::Nothing,
-        Ok(Advice::Take(step)) => Told::Take(step.choice, step.divisions.len()),
-        Ok(Advice::Try(step)) => Told::Try(step.choice, step.divisions.len()),
-        Ok(Advice::Lacks { choice, wanted: _ }) => Told::Lacks(choice),
-        Err(_) => Told::NoMemory,
+        Ok(Advice::Nothing) => Advised::Nothing,
+        Ok(Advice::Take(step)) => Advised::Take(step.choice, step.divisions.len()),
+        Ok(Advice::Try(step)) => Advised::Try(step.choice, step.divisions.len()),
+        Ok(Advice::Lacks { choice, wanted: _ }) => Advised::Lacks(choice),
+        Err(_) => Advised::NoMemory,
     }
 }
 
 /// The next step down.
-fn down(alloc: Global, levels: &Levels, extents: &Extents) -> Told {
+fn down(alloc: Global, levels: &Levels, extents: &Extents) -> Advised {
     let held = Slots::Free;
-    as_told(standing(levels, extents, &held).step_down(&alloc))
+    as_advised(standing(levels, extents, &held).step_down(&alloc))
 }
 
 /// The next move, and the next joining.
-fn aside_and_together(alloc: Global, levels: &Levels, extents: &Extents) -> (Told, Told) {
+fn aside_and_together(alloc: Global, levels: &Levels, extents: &Extents) -> (Advised, Advised) {
     let held = Slots::Free;
     let standing = standing(levels, extents, &held);
-    let aside = as_told(standing.step_aside(&alloc));
-    (aside, as_told(standing.step_together(&alloc)))
+    let aside = as_advised(standing.step_aside(&alloc));
+    (aside, as_advised(standing.step_together(&alloc)))
 }
 
 /// A table alone goes down.
@@ -89,15 +89,15 @@ const FIVE: &[PutKeys] = &[
 fn tables_go_down(rt: HostRuntime) {
     let extents = area_of(&rt, rt.alloc(), 1, 500);
     let none = no_tables(&rt, rt.alloc());
-    assert!(rt; down(rt.alloc(), &none, &extents) == Told::Nothing);
+    assert!(rt; down(rt.alloc(), &none, &extents) == Advised::Nothing);
     // Level 2 is the last one in a small area.
     let last = levels_of(&rt, rt.alloc(), &[], &[&[], ALONE]);
-    assert!(rt; down(rt.alloc(), &last, &extents) == Told::Nothing);
+    assert!(rt; down(rt.alloc(), &last, &extents) == Advised::Nothing);
     let first = levels_of(&rt, rt.alloc(), &[], &[ALONE]);
-    assert!(rt; down(rt.alloc(), &first, &extents) == Told::Take(table(1), 0));
+    assert!(rt; down(rt.alloc(), &first, &extents) == Advised::Take(table(1), 0));
     let run = levels_of(&rt, rt.alloc(), &[ALONE], &[]);
     let oldest = Choice::OldestRuns { count: 1 };
-    assert!(rt; down(rt.alloc(), &run, &extents) == Told::Take(oldest, 0));
+    assert!(rt; down(rt.alloc(), &run, &extents) == Advised::Take(oldest, 0));
 }
 
 #[test]
@@ -149,11 +149,11 @@ fn small_steps_where_room_is_scarce(rt: HostRuntime) {
     // The merge may make one table of two data blocks: 6 blocks. A cut makes two tables of 4 blocks at most. A copy takes 4, and where that
     // leaves the longest gap as long, the table that lies highest is moved.
     for (gaps, blocks, wanted) in [
-        (1, 6, Told::Take(table(11), 0)),
-        (1, 5, Told::Lacks(table(11))),
-        (3, 5, Told::Take(rewrite(11, 11), 1)),
-        (2, 4, Told::Take(rewrite(14, 14), 0)),
-        (2, 3, Told::Lacks(table(11))),
+        (1, 6, Advised::Take(table(11), 0)),
+        (1, 5, Advised::Lacks(table(11))),
+        (3, 5, Advised::Take(rewrite(11, 11), 1)),
+        (2, 4, Advised::Take(rewrite(14, 14), 0)),
+        (2, 3, Advised::Lacks(table(11))),
     ] {
         let extents = area_of(&rt, rt.alloc(), gaps, blocks);
         assert!(rt;
@@ -168,15 +168,15 @@ fn moves_and_joinings(rt: HostRuntime) {
     let extents = area_of(&rt, rt.alloc(), 1, 500);
     let five = levels_of(&rt, rt.alloc(), &[], &[FIVE]);
     // A move would make the only gap shorter.
-    let together = (Told::Nothing, Told::Take(rewrite(1, 5), 0));
+    let together = (Advised::Nothing, Advised::Take(rewrite(1, 5), 0));
     assert!(rt; aside_and_together(rt.alloc(), &five, &extents) == together);
     // One entry each goes into one data block, so four blocks are enough for the table of all. By the number of their data blocks they
     // might take eight.
     for (blocks, wanted) in [
-        (8, Told::Take(rewrite(1, 5), 0)),
-        (7, Told::Try(rewrite(1, 5), 0)),
-        (4, Told::Try(rewrite(1, 5), 0)),
-        (3, Told::Nothing),
+        (8, Advised::Take(rewrite(1, 5), 0)),
+        (7, Advised::Try(rewrite(1, 5), 0)),
+        (4, Advised::Try(rewrite(1, 5), 0)),
+        (3, Advised::Nothing),
     ] {
         let gap = area_of(&rt, rt.alloc(), 1, blocks);
         let (_, joined) = aside_and_together(rt.alloc(), &five, &gap);
@@ -185,12 +185,12 @@ fn moves_and_joinings(rt: HostRuntime) {
     // A table right behind the gap of blocks 5 to 8, whose copy takes that of blocks 0 to 3: then 8 lie side by side.
     let nine = levels_of(&rt, rt.alloc(), &[], NINE);
     let gaps = area_of(&rt, rt.alloc(), 2, 4);
-    let aside = (Told::Take(rewrite(9, 9), 0), Told::Nothing);
+    let aside = (Advised::Take(rewrite(9, 9), 0), Advised::Nothing);
     assert!(rt; aside_and_together(rt.alloc(), &nine, &gaps) == aside);
     // Four tables are not too many, and no gap has room for a copy.
     let few = levels_of(&rt, rt.alloc(), &[], OVER_THREE);
     let full = area_of(&rt, rt.alloc(), 2, 3);
-    let nothing = (Told::Nothing, Told::Nothing);
+    let nothing = (Advised::Nothing, Advised::Nothing);
     assert!(rt; aside_and_together(rt.alloc(), &few, &full) == nothing);
 }
 
