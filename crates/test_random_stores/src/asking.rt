@@ -48,12 +48,12 @@ pub(crate) fn feed_alone(subject: &mut Subject, stream: &mut Stream) -> Result<(
 /// Compares a value or a range at one of the snapshots that are held, or all its rows.
 pub(crate) fn ask_then(subject: &mut Subject, draws: &mut Draws) -> Result<(), Trouble> {
     let place = draws.place(subject.held_count());
-    let asked = if draws.below(3) == 0 {
+    let query = if draws.below(3) == 0 {
         drawn_range(draws)
     } else {
         drawn_value(subject, draws)
     };
-    subject.ask_held(place, asked)
+    subject.ask_held(place, query)
 }
 
 /// Syncs all batches, or those up to a number.

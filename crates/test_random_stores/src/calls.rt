@@ -1,7 +1,7 @@
 //! Other calls than commits of a stream, which come between them.
 
 use crate::asking::{ask_then, compact, feed_alone, feed_if, page_through, sync_some};
-use crate::comparing::Asked;
+use crate::comparing::RowQuery;
 use crate::draws::Draws;
 use crate::guards::drawn_key;
 use crate::stream::{KEYS, Stream};
@@ -57,18 +57,18 @@ fn make(draws: &mut Draws, subject: &mut Subject, stream: &mut Stream) -> Result
 }
 
 /// The value of a key.
-pub(crate) fn drawn_value(subject: &Subject, draws: &mut Draws) -> Asked {
-    Asked::Value(drawn_key(&subject.book, draws))
+pub(crate) fn drawn_value(subject: &Subject, draws: &mut Draws) -> RowQuery {
+    RowQuery::Value(drawn_key(&subject.book, draws))
 }
 
 /// The rows of a range: from the first key on, or from one in the middle, up to another one, or to the end.
-pub(crate) fn drawn_range(draws: &mut Draws) -> Asked {
+pub(crate) fn drawn_range(draws: &mut Draws) -> RowQuery {
     let any = draws.below(KEYS);
     let from = draws.one_of(&[0, any, any]);
     let wide = draws.one_of(&[1, 100, 5_000]);
     let to = from.saturating_add(draws.below(wide));
     if draws.below(10) == 0 || to >= KEYS {
-        return Asked::Range(from, None);
+        return RowQuery::Range(from, None);
     }
-    Asked::Range(from, Some(to))
+    RowQuery::Range(from, Some(to))
 }

@@ -10,7 +10,7 @@ use std::alloc::{AllocError, Global};
 
 /// What is asked for.
 #[derive(Clone, Copy)]
-pub(crate) enum Asked {
+pub(crate) enum RowQuery {
     /// All rows.
     All,
     /// The value of the key of a number.
@@ -25,12 +25,12 @@ pub(crate) fn compare(
     db: &mut Db<MemDevice>,
     book: &Book,
     at: At,
-    asked: Asked,
+    query: RowQuery,
 ) -> Result<(), Trouble> {
-    match asked {
-        Asked::All => compare_all(alloc, db, book, at),
-        Asked::Value(number) => compare_value(db, book, at, number),
-        Asked::Range(from, to) => compare_range(db, book, at, (from, to)),
+    match query {
+        RowQuery::All => compare_all(alloc, db, book, at),
+        RowQuery::Value(number) => compare_value(db, book, at, number),
+        RowQuery::Range(from, to) => compare_range(db, book, at, (from, to)),
     }
 }
 

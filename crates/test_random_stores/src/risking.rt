@@ -2,7 +2,7 @@
 
 use crate::book::{Collected, has_put};
 use crate::calls::{drawn_range, drawn_value};
-use crate::comparing::Asked;
+use crate::comparing::RowQuery;
 use crate::draws::Draws;
 use crate::guards::drawn_guards;
 use crate::pending::Pending;
@@ -80,8 +80,8 @@ fn risk_sync(subject: &mut Subject, pending: &mut Pending, back: u32) -> Result<
 }
 
 /// Reads. One that fails changes nothing.
-fn risk_read(subject: &mut Subject, asked: Asked) -> Result<bool, Trouble> {
-    match subject.ask(asked) {
+fn risk_read(subject: &mut Subject, query: RowQuery) -> Result<bool, Trouble> {
+    match subject.ask(query) {
         Ok(()) | Err(Trouble::Call(Refusal::Io)) => Ok(true),
         Err(Trouble::Call(Refusal::Stopped)) => Ok(false),
         Err(trouble) => Err(trouble),

@@ -1,7 +1,7 @@
 //! A store, and what it is to hold.
 
 use crate::book::{Book, Collected, has_put};
-use crate::comparing::{Asked, compare};
+use crate::comparing::{RowQuery, compare};
 use crate::draws::Draws;
 use crate::opening::{Failure, armed, begun, crashed, opened, synced};
 use crate::stream::{Deed, Stream};
@@ -252,7 +252,7 @@ impl Subject {
 
     /// Compares all rows of the snapshot at a place among those that are held, if there is one, and releases it.
     pub fn let_one_go(&mut self, place: usize) -> Result<(), Trouble> {
-        self.ask_held(place, Asked::All)?;
+        self.ask_held(place, RowQuery::All)?;
         if place < self.held.len() {
             let held = self.held.swap_remove(place);
             self.db.release(held.number)?;
@@ -266,26 +266,26 @@ impl Subject {
     }
 
     /// Compares what is asked for at the snapshot at a place among those that are held, if there is one.
-    pub fn ask_held(&mut self, place: usize, asked: Asked) -> Result<(), Trouble> {
+    pub fn ask_held(&mut self, place: usize, query: RowQuery) -> Result<(), Trouble> {
         match self.held.get(place) {
             Some(held) => compare(
                 self.alloc,
                 &mut self.db,
                 &held.book,
                 At::Snap(held.number),
-                asked,
+                query,
             ),
             None => Ok(()),
         }
     }
 
     /// Compares what is asked for of the present rows.
-    pub fn ask(&mut self, asked: Asked) -> Result<(), Trouble> {
-        compare(self.alloc, &mut self.db, &self.book, At::Now, asked)
+    pub fn ask(&mut self, query: RowQuery) -> Result<(), Trouble> {
+        compare(self.alloc, &mut self.db, &self.book, At::Now, query)
     }
 
     /// Compares all rows.
     pub fn compare(&mut self) -> Result<(), Trouble> {
-        self.ask(Asked::All)
+        self.ask(RowQuery::All)
     }
 }
