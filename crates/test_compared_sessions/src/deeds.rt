@@ -1,7 +1,7 @@
 //! What the clients of a session do.
 
 use lsm_store::Choice;
-use test_compared_steps::lists::Line;
+use test_compared_steps::lists::ListedStep;
 
 /// How many clients a session has, and how many places its trail.
 #[derive(Clone, Copy)]
@@ -14,7 +14,7 @@ pub struct Sizes {
 #[derive(Clone, Copy)]
 pub enum Deed {
     /// It makes a call.
-    Call(u32, Line),
+    Call(u32, ListedStep),
     /// It takes the job of a choice.
     Take(u32, Choice),
     /// It takes a turn. What that hands out is built and brought.
@@ -34,7 +34,7 @@ pub struct Late {
 #[derive(Clone, Copy)]
 pub struct Sitting {
     pub name: &'static str,
-    pub past: &'static [Line],
+    pub past: &'static [ListedStep],
     pub sizes: Sizes,
     pub deeds: &'static [Deed],
     /// What comes after the deeds, if anything.

@@ -9,7 +9,7 @@ use test_compared_steps::plain::{Answer, Step};
 
 /// An entry: who made the step, and what the trail is to tell of its reply.
 #[derive(Clone, Copy)]
-struct Wanted {
+struct ExpectedEntry {
     client: u32,
     step: Step,
     answer: Answer,
@@ -18,7 +18,7 @@ struct Wanted {
 /// The entries, the most that the trail may have, how many are calls, and how many are builds that were lent an input.
 #[derive(Drop)]
 pub(crate) struct Entries {
-    wanted: Vec<Wanted>,
+    wanted: Vec<ExpectedEntry>,
     places: u32,
     calls: u64,
     builds: u64,
@@ -59,7 +59,7 @@ fn is_of<A: Allocator>(made: &Made<A>, step: Step) -> bool {
     }
 }
 
-fn is_as_wanted<A: Allocator>(entry: &TrailEntry<A>, wanted: Wanted) -> bool {
+fn is_as_wanted<A: Allocator>(entry: &TrailEntry<A>, wanted: ExpectedEntry) -> bool {
     entry.client() == wanted.client
         && is_of(entry.step(), wanted.step)
         && told_step(entry.reply(), wanted.step) == wanted.answer
@@ -121,7 +121,7 @@ impl Entries {
     }
 
     pub(crate) fn add(&mut self, client: u32, step: Step, answer: Answer) -> Result<(), Refusal> {
-        self.wanted.push(Wanted {
+        self.wanted.push(ExpectedEntry {
             client,
             step,
             answer,

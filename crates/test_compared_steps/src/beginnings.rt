@@ -2,9 +2,9 @@
 
 use crate::disk::{Disk, formatted};
 use crate::draws::Draws;
-use crate::image::Image;
+use crate::image::PlainImage;
 use crate::layout::spread;
-use crate::lists::{Line, drawn, steps_of};
+use crate::lists::{ListedStep, drawn, steps_of};
 use crate::plain::{Answer, Change, LOG_SECTORS, Machine, Step};
 use crate::playing::{opened, play};
 use crate::trouble::Trouble;
@@ -23,7 +23,7 @@ pub enum After {
 
 /// What a list begins with: an image, and the machine of the steps that made it.
 pub struct Beginning {
-    pub image: Image,
+    pub image: PlainImage,
     pub machine: Machine,
 }
 
@@ -36,7 +36,7 @@ impl Drop for Beginning {
     }
 }
 
-/// Makes the steps of some lines on a device, and gives it back with all that pends, synced or not.
+/// Makes the steps of a list on a device, and gives it back with all that pends, synced or not.
 fn played<R: Threads + Sync>(
     rt: &R,
     alloc: Global,
@@ -49,17 +49,17 @@ fn played<R: Threads + Sync>(
     Ok(subject.into_disk())
 }
 
-/// The image that some lines make, of which nothing is lost.
+/// The image that a list of steps makes, of which nothing is lost.
 pub fn begun<R: Threads + Sync>(
     rt: &R,
     alloc: Global,
-    past: &[Line],
+    past: &[ListedStep],
 ) -> Result<Beginning, Trouble> {
     let steps = steps_of(alloc, past)?;
     let mut machine = Machine::new(alloc);
     let disk = formatted(alloc, LOG_SECTORS)?;
     let mut disk = played(rt, alloc, disk, &mut machine, &steps)?;
-    let image = Image::of(alloc, &mut disk)?;
+    let image = PlainImage::of(alloc, &mut disk)?;
     Ok(Beginning { image, machine })
 }
 
@@ -78,12 +78,16 @@ pub fn lived<R: Threads + Sync>(
         disk = played(rt, alloc, disk, &mut machine, &steps)?;
         machine = machine.reopened()?;
     }
-    let image = Image::of(alloc, &mut disk)?;
+    let image = PlainImage::of(alloc, &mut disk)?;
     Ok(Beginning { image, machine })
 }
 
-/// What a crash leaves after some lines that end with a sync: of one batch more, of two sectors, the first.
-fn torn<R: Threads + Sync>(rt: &R, alloc: Global, past: &[Line]) -> Result<Beginning, Trouble> {
+/// What a crash leaves after a list of steps that ends with a sync: of one batch more, of two sectors, the first.
+fn torn<R: Threads + Sync>(
+    rt: &R,
+    alloc: Global,
+    past: &[ListedStep],
+) -> Result<Beginning, Trouble> {
     let steps = steps_of(alloc, past)?;
     let mut machine = Machine::new(alloc);
     let disk = formatted(alloc, LOG_SECTORS)?;
@@ -91,18 +95,18 @@ fn torn<R: Threads + Sync>(rt: &R, alloc: Global, past: &[Line]) -> Result<Begin
     play(rt, &mut subject, &mut machine, &steps)?;
     let batch = subject.answer_alone(Step::Commit(Change::Put(9, 9, 600)));
     let mut disk = subject.into_disk().crashed(1);
-    let image = Image::of(alloc, &mut disk)?;
+    let image = PlainImage::of(alloc, &mut disk)?;
     match batch {
         Answer::Number(_) => Ok(Beginning { image, machine }),
         _ => Err(Trouble::Count(0)),
     }
 }
 
-/// The image that some lines make, whose runs are spread over all levels.
+/// The image that a list of steps makes, whose runs are spread over all levels.
 fn spread_out<R: Threads + Sync>(
     rt: &R,
     alloc: Global,
-    past: &[Line],
+    past: &[ListedStep],
 ) -> Result<Beginning, Trouble> {
     let mut beginning = begun(rt, alloc, past)?;
     spread(&mut beginning.image);
@@ -110,11 +114,11 @@ fn spread_out<R: Threads + Sync>(
     Ok(beginning)
 }
 
-/// What some lines, and what comes after them, leave.
+/// What a list of steps, and what comes after it, leaves.
 pub fn begin<R: Threads + Sync>(
     rt: &R,
     alloc: Global,
-    past: &[Line],
+    past: &[ListedStep],
     after: After,
 ) -> Result<Beginning, Trouble> {
     match after {

@@ -13,13 +13,13 @@ pub struct Sector {
 
 /// What stands on a device.
 #[derive(Drop)]
-pub struct Image {
+pub struct PlainImage {
     pub sectors: Vec<Sector>,
 }
 
-impl Image {
+impl PlainImage {
     /// What reads on a device.
-    pub fn of(alloc: Global, disk: &mut Disk) -> Result<Image, Refusal> {
+    pub fn of(alloc: Global, disk: &mut Disk) -> Result<PlainImage, Refusal> {
         let mut sectors = Vec::new(alloc);
         for at in 0..SECTORS {
             let mut bytes = [0; 512];
@@ -30,7 +30,7 @@ impl Image {
                 sectors.push(Sector { at, bytes })?;
             }
         }
-        Ok(Image { sectors })
+        Ok(PlainImage { sectors })
     }
 
     /// One number of all that stands from a sector on.

@@ -1,6 +1,6 @@
 //! Where the fields of superblock and manifest lie.
 
-use crate::image::Image;
+use crate::image::PlainImage;
 
 /// Where the areas of the manifests begin, those of even generations and those of odd ones.
 const MANIFESTS: [u32; 2] = [2, 66];
@@ -65,7 +65,7 @@ fn byte_of(bytes: &[u8; 512], at: usize) -> u8 {
 }
 
 /// The generation of a superblock that stands in a sector, which is small.
-fn generation_in(image: &Image, at: u32) -> u8 {
+fn generation_in(image: &PlainImage, at: u32) -> u8 {
     for sector in image.sectors.iter() {
         if sector.at == at {
             return byte_of(&sector.bytes, GENERATION + 7);
@@ -75,7 +75,7 @@ fn generation_in(image: &Image, at: u32) -> u8 {
 }
 
 /// The sector in which the manifest begins that counts.
-pub fn manifest_of(image: &Image) -> u32 {
+pub fn manifest_of(image: &PlainImage) -> u32 {
     let [even, odd] = MANIFESTS;
     if generation_in(image, 0) > generation_in(image, 1) {
         return even;
@@ -107,7 +107,7 @@ fn spread_in(bytes: &mut [u8; 512]) {
 }
 
 /// Of the tables of the runs of level 0, of which there are no others, the newest stays there, the next is of level 1, and so on.
-pub(crate) fn spread(image: &mut Image) {
+pub(crate) fn spread(image: &mut PlainImage) {
     let manifest = manifest_of(image);
     for sector in image.sectors.iter_mut() {
         if sector.at == manifest {
@@ -135,7 +135,7 @@ fn old_manifest(bytes: &[u8; 512]) -> [u8; 512] {
 }
 
 /// Makes the image of a store, whose manifests have one sector, one of version 1.
-pub fn make_old(image: &mut Image) {
+pub fn make_old(image: &mut PlainImage) {
     let [even, odd] = MANIFESTS;
     for sector in image.sectors.iter_mut() {
         if sector.at < even {
@@ -177,7 +177,7 @@ fn record_of(manifest: u32, bytes: &[u8; 512], record: usize) -> Record {
 }
 
 /// Where the table of a place lies, as the manifest says, which has one sector.
-pub fn record_in(image: &Image, place: usize) -> Option<Record> {
+pub fn record_in(image: &PlainImage, place: usize) -> Option<Record> {
     let manifest = manifest_of(image);
     for sector in image.sectors.iter() {
         if sector.at == manifest && place < usize::from(byte_of(&sector.bytes, TABLES)) {
@@ -213,7 +213,7 @@ fn numbers_of(bytes: &[u8; 512]) -> Numbers {
 }
 
 /// What the manifest of an image tells, which has one sector.
-pub fn numbers_in(image: &Image) -> Numbers {
+pub fn numbers_in(image: &PlainImage) -> Numbers {
     let manifest = manifest_of(image);
     for sector in image.sectors.iter() {
         if sector.at == manifest {

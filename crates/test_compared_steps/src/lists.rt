@@ -8,7 +8,7 @@ use std::alloc::Global;
 
 /// One or more steps, in a word.
 #[derive(Clone, Copy)]
-pub enum Line {
+pub enum ListedStep {
     /// Puts a value of one byte, the key's.
     Put(u8),
     /// Puts a value of a number of bytes.
@@ -60,40 +60,40 @@ fn push_chosen(
     Ok(())
 }
 
-/// The step of a line that is one step.
-pub fn step_of(line: Line) -> Option<Step> {
-    match line {
-        Line::Put(key) => Some(Step::Commit(Change::Put(key, key, 1))),
-        Line::Long(key, length) => Some(Step::Commit(Change::Put(key, key, length))),
-        Line::Delete(key) => Some(Step::Commit(Change::Delete(key))),
-        Line::Get(key) => Some(Step::Get(At::Now, key)),
-        Line::Scan(from, limit) => Some(Step::Scan(At::Now, from, limit)),
-        Line::One(step) => Some(step),
-        Line::Job(_) | Line::Chosen(_, _, _) | Line::Flush(_, _) => None,
+/// The step that stands in a list, where it is one step.
+pub fn step_of(listed: ListedStep) -> Option<Step> {
+    match listed {
+        ListedStep::Put(key) => Some(Step::Commit(Change::Put(key, key, 1))),
+        ListedStep::Long(key, length) => Some(Step::Commit(Change::Put(key, key, length))),
+        ListedStep::Delete(key) => Some(Step::Commit(Change::Delete(key))),
+        ListedStep::Get(key) => Some(Step::Get(At::Now, key)),
+        ListedStep::Scan(from, limit) => Some(Step::Scan(At::Now, from, limit)),
+        ListedStep::One(step) => Some(step),
+        ListedStep::Job(_) | ListedStep::Chosen(_, _, _) | ListedStep::Flush(_, _) => None,
     }
 }
 
-fn push(steps: &mut Vec<Step>, line: Line) -> Result<(), Refusal> {
-    if let Some(step) = step_of(line) {
+fn push(steps: &mut Vec<Step>, listed: ListedStep) -> Result<(), Refusal> {
+    if let Some(step) = step_of(listed) {
         steps.push(step)?;
     }
-    if let Line::Flush(key, job) = line {
+    if let ListedStep::Flush(key, job) = listed {
         steps.push(Step::Commit(Change::Put(key, key, 1)))?;
         steps.push(Step::Rotate)?;
         return push_job(steps, job);
     }
-    match line {
-        Line::Job(job) => push_job(steps, job),
-        Line::Chosen(choice, job, division) => push_chosen(steps, choice, job, division),
+    match listed {
+        ListedStep::Job(job) => push_job(steps, job),
+        ListedStep::Chosen(choice, job, division) => push_chosen(steps, choice, job, division),
         _ => Ok(()),
     }
 }
 
-/// The steps of some lines.
-pub fn steps_of(alloc: Global, lines: &[Line]) -> Result<Vec<Step>, Refusal> {
+/// The steps of a list.
+pub fn steps_of(alloc: Global, list: &[ListedStep]) -> Result<Vec<Step>, Refusal> {
     let mut steps = Vec::new(alloc);
-    for line in lines {
-        push(&mut steps, *line)?;
+    for listed in list {
+        push(&mut steps, *listed)?;
     }
     Ok(steps)
 }

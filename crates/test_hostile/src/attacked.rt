@@ -3,7 +3,7 @@
 use std::alloc::{Allocator, Global};
 use std::thread::Threads;
 use test_compared_steps::beginnings::{After, Beginning, begin};
-use test_compared_steps::lists::{Line, steps_of};
+use test_compared_steps::lists::{ListedStep, steps_of};
 use test_compared_steps::plain::{Machine, Step};
 use test_compared_steps::playing::{opened, play};
 use test_compared_steps::subject::Subject;
@@ -13,12 +13,12 @@ use test_compared_steps::trouble::Trouble;
 #[derive(Clone, Copy)]
 pub(crate) struct List {
     pub(crate) name: &'static str,
-    pub(crate) past: &'static [Line],
+    pub(crate) past: &'static [ListedStep],
     pub(crate) after: After,
     /// Whether the opening of the image is attacked too.
     pub(crate) is_opened: bool,
-    pub(crate) before: &'static [Line],
-    pub(crate) steps: &'static [Line],
+    pub(crate) before: &'static [ListedStep],
+    pub(crate) steps: &'static [ListedStep],
 }
 
 /// A list of steps over its beginning.

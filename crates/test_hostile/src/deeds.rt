@@ -3,55 +3,55 @@
 use crate::scripts::{BATCHES, FOUR_RUNS, LACKS_1, LACKS_9, TWELVE_RUNS};
 use lsm_store::{At, Choice};
 use test_compared_sessions::deeds::{Deed, Late, Sitting, Sizes};
-use test_compared_steps::lists::Line;
+use test_compared_steps::lists::ListedStep;
 use test_compared_steps::plain::{Change, Condition, Step, Value};
 
 /// One client, with a flush between its calls.
 const FLUSHED: [Deed; 24] = [
     Deed::Turn(0),
-    Deed::Call(0, Line::Put(1)),
-    Deed::Call(0, Line::Long(2, 600)),
+    Deed::Call(0, ListedStep::Put(1)),
+    Deed::Call(0, ListedStep::Long(2, 600)),
     Deed::Turn(0),
-    Deed::Call(0, Line::One(Step::Sync)),
-    Deed::Call(0, Line::One(Step::Rotate)),
+    Deed::Call(0, ListedStep::One(Step::Sync)),
+    Deed::Call(0, ListedStep::One(Step::Rotate)),
     Deed::Turn(0),
-    Deed::Call(0, Line::Put(3)),
+    Deed::Call(0, ListedStep::Put(3)),
     Deed::Turn(0),
-    Deed::Call(0, Line::One(Step::Snapshot)),
+    Deed::Call(0, ListedStep::One(Step::Snapshot)),
     Deed::Turn(0),
-    Deed::Call(0, Line::Delete(1)),
+    Deed::Call(0, ListedStep::Delete(1)),
     Deed::Turn(0),
     Deed::Turn(0),
-    Deed::Call(0, Line::Get(2)),
-    Deed::Call(0, Line::One(Step::Get(At::Snap(1), 2))),
-    Deed::Call(0, Line::One(Step::Get(At::Snap(2), 1))),
-    Deed::Call(0, Line::One(Step::Release(1))),
-    Deed::Call(0, Line::One(Step::Release(2))),
-    Deed::Call(0, Line::One(Step::Release(2))),
-    Deed::Call(0, Line::One(Step::SyncTo(4))),
-    Deed::Call(0, Line::One(Step::SyncTo(5))),
-    Deed::Call(0, Line::One(Step::Room)),
-    Deed::Call(0, Line::Scan(0, 64)),
+    Deed::Call(0, ListedStep::Get(2)),
+    Deed::Call(0, ListedStep::One(Step::Get(At::Snap(1), 2))),
+    Deed::Call(0, ListedStep::One(Step::Get(At::Snap(2), 1))),
+    Deed::Call(0, ListedStep::One(Step::Release(1))),
+    Deed::Call(0, ListedStep::One(Step::Release(2))),
+    Deed::Call(0, ListedStep::One(Step::Release(2))),
+    Deed::Call(0, ListedStep::One(Step::SyncTo(4))),
+    Deed::Call(0, ListedStep::One(Step::SyncTo(5))),
+    Deed::Call(0, ListedStep::One(Step::Room)),
+    Deed::Call(0, ListedStep::Scan(0, 64)),
 ];
 
 /// One client, with a merge, and a flush after it, and the rewrite of what was merged.
 const MERGED: [Deed; 20] = [
     Deed::Turn(0),
-    Deed::Call(0, Line::Put(5)),
+    Deed::Call(0, ListedStep::Put(5)),
     Deed::Turn(0),
     Deed::Turn(0),
-    Deed::Call(0, Line::Get(1)),
-    Deed::Turn(0),
-    Deed::Turn(0),
-    Deed::Turn(0),
-    Deed::Call(0, Line::One(Step::Rotate)),
+    Deed::Call(0, ListedStep::Get(1)),
     Deed::Turn(0),
     Deed::Turn(0),
     Deed::Turn(0),
+    Deed::Call(0, ListedStep::One(Step::Rotate)),
     Deed::Turn(0),
     Deed::Turn(0),
-    Deed::Call(0, Line::Delete(5)),
-    Deed::Call(0, Line::Scan(0, 64)),
+    Deed::Turn(0),
+    Deed::Turn(0),
+    Deed::Turn(0),
+    Deed::Call(0, ListedStep::Delete(5)),
+    Deed::Call(0, ListedStep::Scan(0, 64)),
     Deed::Take(0, Choice::Rewrite { first: 5, last: 5 }),
     Deed::Turn(0),
     Deed::Turn(0),
@@ -60,13 +60,13 @@ const MERGED: [Deed; 20] = [
 
 /// Two clients, with a flush and a merge side by side.
 const SIDE_BY_SIDE: [Deed; 18] = [
-    Deed::Call(0, Line::Put(6)),
-    Deed::Call(1, Line::One(Step::Rotate)),
+    Deed::Call(0, ListedStep::Put(6)),
+    Deed::Call(1, ListedStep::One(Step::Rotate)),
     Deed::Turn(0),
     Deed::Turn(1),
     Deed::Turn(1),
     Deed::Turn(0),
-    Deed::Call(0, Line::One(Step::Commit(Change::Both(1, 2)))),
+    Deed::Call(0, ListedStep::One(Step::Commit(Change::Both(1, 2)))),
     Deed::Turn(1),
     Deed::Turn(1),
     Deed::Turn(0),
@@ -74,28 +74,28 @@ const SIDE_BY_SIDE: [Deed; 18] = [
     Deed::Turn(1),
     Deed::Turn(1),
     Deed::Turn(0),
-    Deed::Call(1, Line::Get(1)),
-    Deed::Call(0, Line::Get(6)),
-    Deed::Call(1, Line::Scan(0, 64)),
-    Deed::Call(0, Line::One(Step::Sync)),
+    Deed::Call(1, ListedStep::Get(1)),
+    Deed::Call(0, ListedStep::Get(6)),
+    Deed::Call(1, ListedStep::Scan(0, 64)),
+    Deed::Call(0, ListedStep::One(Step::Sync)),
 ];
 
 /// Four clients, each of which commits and syncs, until the trail has no place left. A choice without a job needs none.
 const FOUR: [Deed; 16] = [
-    Deed::Call(0, Line::Put(1)),
-    Deed::Call(1, Line::Long(2, 600)),
-    Deed::Call(1, Line::One(Step::Sync)),
-    Deed::Call(2, Line::Put(3)),
-    Deed::Call(3, Line::Delete(1)),
-    Deed::Call(0, Line::One(Step::Sync)),
-    Deed::Call(2, Line::One(Step::SyncTo(5))),
-    Deed::Call(3, Line::One(Step::SyncTo(6))),
-    Deed::Call(2, Line::Get(1)),
-    Deed::Call(1, Line::Scan(0, 64)),
-    Deed::Call(3, Line::Put(4)),
+    Deed::Call(0, ListedStep::Put(1)),
+    Deed::Call(1, ListedStep::Long(2, 600)),
+    Deed::Call(1, ListedStep::One(Step::Sync)),
+    Deed::Call(2, ListedStep::Put(3)),
+    Deed::Call(3, ListedStep::Delete(1)),
+    Deed::Call(0, ListedStep::One(Step::Sync)),
+    Deed::Call(2, ListedStep::One(Step::SyncTo(5))),
+    Deed::Call(3, ListedStep::One(Step::SyncTo(6))),
+    Deed::Call(2, ListedStep::Get(1)),
+    Deed::Call(1, ListedStep::Scan(0, 64)),
+    Deed::Call(3, ListedStep::Put(4)),
     Deed::Turn(3),
-    Deed::Call(0, Line::Put(5)),
-    Deed::Call(1, Line::One(Step::Sync)),
+    Deed::Call(0, ListedStep::Put(5)),
+    Deed::Call(1, ListedStep::One(Step::Sync)),
     Deed::Take(2, Choice::OldestRuns { count: 1 }),
     Deed::Take(3, Choice::Rewrite { first: 1, last: 1 }),
 ];
@@ -140,57 +140,60 @@ const LACKS_4: Condition = Condition {
 const GUARDED: [Deed; 15] = [
     Deed::Call(
         0,
-        Line::One(Step::CommitIf(HAS_2, LACKS_9, Change::Put(4, 4, 1))),
+        ListedStep::One(Step::CommitIf(HAS_2, LACKS_9, Change::Put(4, 4, 1))),
     ),
     Deed::Call(
         0,
-        Line::One(Step::CommitIf(HAS_1, LACKS_4, Change::Delete(1))),
+        ListedStep::One(Step::CommitIf(HAS_1, LACKS_4, Change::Delete(1))),
     ),
     Deed::Call(
         0,
-        Line::One(Step::CommitIf(LACKS_1, LACKS_9, Change::Delete(2))),
+        ListedStep::One(Step::CommitIf(LACKS_1, LACKS_9, Change::Delete(2))),
     ),
-    Deed::Call(0, Line::One(Step::CommitIf(LACKS_9, LACKS_1, Change::Fill))),
-    Deed::Turn(0),
-    Deed::Turn(0),
     Deed::Call(
         0,
-        Line::One(Step::CommitIf(HAS_4, LACKS_9, Change::Both(2, 1))),
+        ListedStep::One(Step::CommitIf(LACKS_9, LACKS_1, Change::Fill)),
     ),
     Deed::Turn(0),
     Deed::Turn(0),
     Deed::Call(
         0,
-        Line::One(Step::CommitIf(HAS_LONG_3, LACKS_3, Change::Delete(4))),
+        ListedStep::One(Step::CommitIf(HAS_4, LACKS_9, Change::Both(2, 1))),
     ),
-    Deed::Call(0, Line::One(Step::Sync)),
+    Deed::Turn(0),
+    Deed::Turn(0),
     Deed::Call(
         0,
-        Line::One(Step::CommitIf(LACKS_1, HAS_4, Change::Delete(4))),
+        ListedStep::One(Step::CommitIf(HAS_LONG_3, LACKS_3, Change::Delete(4))),
     ),
-    Deed::Call(0, Line::Get(4)),
-    Deed::Call(0, Line::Scan(0, 64)),
+    Deed::Call(0, ListedStep::One(Step::Sync)),
     Deed::Call(
         0,
-        Line::One(Step::CommitIf(LACKS_1, LACKS_4, Change::Delete(2))),
+        ListedStep::One(Step::CommitIf(LACKS_1, HAS_4, Change::Delete(4))),
+    ),
+    Deed::Call(0, ListedStep::Get(4)),
+    Deed::Call(0, ListedStep::Scan(0, 64)),
+    Deed::Call(
+        0,
+        ListedStep::One(Step::CommitIf(LACKS_1, LACKS_4, Change::Delete(2))),
     ),
 ];
 
 /// A flush is taken, and both clients are handed out its input.
 const TAKEN_FOR_BOTH: [Deed; 3] = [
-    Deed::Call(0, Line::Put(1)),
-    Deed::Call(0, Line::One(Step::Rotate)),
+    Deed::Call(0, ListedStep::Put(1)),
+    Deed::Call(0, ListedStep::One(Step::Rotate)),
     Deed::Turn(0),
 ];
 
 /// The first one brings its result first.
 const BROUGHT_BEFORE: Late = Late {
-    meanwhile: &[Deed::Turn(0), Deed::Call(0, Line::Put(2))],
+    meanwhile: &[Deed::Turn(0), Deed::Call(0, ListedStep::Put(2))],
     behind: &[
         Deed::Turn(1),
         Deed::Turn(0),
         Deed::Turn(1),
-        Deed::Call(1, Line::Scan(0, 64)),
+        Deed::Call(1, ListedStep::Scan(0, 64)),
     ],
 };
 
@@ -200,15 +203,15 @@ const ENDED_BEFORE: Late = Late {
         Deed::Turn(0),
         Deed::Turn(0),
         Deed::Turn(0),
-        Deed::Call(0, Line::Put(2)),
-        Deed::Call(0, Line::One(Step::Rotate)),
+        Deed::Call(0, ListedStep::Put(2)),
+        Deed::Call(0, ListedStep::One(Step::Rotate)),
         Deed::Turn(0),
     ],
     behind: &[
         Deed::Turn(1),
         Deed::Turn(0),
         Deed::Turn(1),
-        Deed::Call(1, Line::Scan(0, 64)),
+        Deed::Call(1, ListedStep::Scan(0, 64)),
     ],
 };
 
@@ -218,19 +221,19 @@ const CHOSEN: [Deed; 11] = [
     Deed::Take(0, Choice::OldestRuns { count: 2 }),
     Deed::Take(1, Choice::OldestRuns { count: 1 }),
     Deed::Turn(0),
-    Deed::Call(1, Line::Put(6)),
+    Deed::Call(1, ListedStep::Put(6)),
     Deed::Turn(1),
     Deed::Turn(0),
     Deed::Turn(1),
-    Deed::Call(0, Line::One(Step::Sync)),
+    Deed::Call(0, ListedStep::One(Step::Sync)),
     Deed::Take(1, Choice::OldestRuns { count: 3 }),
     Deed::Take(0, Choice::OldestRuns { count: 2 }),
 ];
 
 /// The install of a flush is put off until a merge has made a place in level 0.
 const PUT_OFF: [Deed; 12] = [
-    Deed::Call(0, Line::Put(20)),
-    Deed::Call(0, Line::One(Step::Rotate)),
+    Deed::Call(0, ListedStep::Put(20)),
+    Deed::Call(0, ListedStep::One(Step::Rotate)),
     Deed::Turn(0),
     Deed::Turn(0),
     Deed::Turn(0),
@@ -240,13 +243,13 @@ const PUT_OFF: [Deed; 12] = [
     Deed::Turn(0),
     Deed::Turn(0),
     Deed::Turn(0),
-    Deed::Call(0, Line::Scan(0, 64)),
+    Deed::Call(0, ListedStep::Scan(0, 64)),
 ];
 
 /// The same, where the trail has a place for an install that is put off, and none for what comes after it.
 const PUT_OFF_AT_THE_END: [Deed; 7] = [
-    Deed::Call(0, Line::Put(20)),
-    Deed::Call(0, Line::One(Step::Rotate)),
+    Deed::Call(0, ListedStep::Put(20)),
+    Deed::Call(0, ListedStep::One(Step::Rotate)),
     Deed::Turn(0),
     Deed::Turn(0),
     Deed::Turn(0),

@@ -10,7 +10,7 @@ use std::alloc::{Allocator, Global};
 use std::thread::Threads;
 use test_compared_steps::asking::asked_all;
 use test_compared_steps::disk::SECTORS;
-use test_compared_steps::lists::{Line, steps_of};
+use test_compared_steps::lists::{ListedStep, steps_of};
 use test_compared_steps::plain::{LOG_SECTORS, Step};
 use test_compared_steps::trouble::Trouble;
 use test_merge::budget::Budget;
@@ -19,17 +19,17 @@ use test_merge::budget::Budget;
 const MOST: u64 = 1_000_000;
 
 /// A batch of one sector, and one of two.
-const BATCHES: [Line; 2] = [Line::Put(1), Line::Long(2, 600)];
+const BATCHES: [ListedStep; 2] = [ListedStep::Put(1), ListedStep::Long(2, 600)];
 
 /// A batch that is synced.
-const SYNCED: [Line; 2] = [Line::Put(1), Line::One(Step::Sync)];
+const SYNCED: [ListedStep; 2] = [ListedStep::Put(1), ListedStep::One(Step::Sync)];
 
-/// What is explored: some lines, whether the openings of what is left are explored too, and of how many growths one is refused: a
+/// What is explored: steps, whether the openings of what is left are explored too, and of how many growths one is refused: a
 /// prime number, since all openings of an exploration ask for the same growths, and each of these is to be met.
 #[derive(Clone, Copy)]
 pub(crate) struct Tour {
     pub(crate) name: &'static str,
-    lines: &'static [Line],
+    list: &'static [ListedStep],
     twice: bool,
     every: u64,
 }
@@ -38,13 +38,13 @@ pub(crate) struct Tour {
 pub(crate) const TOURS: [Tour; 2] = [
     Tour {
         name: "an exploration of two batches",
-        lines: &BATCHES,
+        list: &BATCHES,
         twice: false,
         every: 11,
     },
     Tour {
         name: "an exploration of a synced batch, and of the openings behind it",
-        lines: &SYNCED,
+        list: &SYNCED,
         twice: true,
         every: 71,
     },
@@ -101,7 +101,7 @@ pub(crate) fn sweep<R: Threads + Sync>(
     extent: Extent,
     tally: &mut Tally,
 ) -> Result<(), Trouble> {
-    let steps = steps_of(alloc, tour.lines)?;
+    let steps = steps_of(alloc, tour.list)?;
     let asked = asked_all(&alloc, &steps)?;
     let ample = explored(rt, alloc, &asked, tour.twice)?;
     let every = if extent.whole {

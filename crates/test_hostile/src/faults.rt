@@ -17,7 +17,7 @@ const MOST: u64 = 10_000;
 
 /// The call that fails, counted from 0, whether it stands where it is a write, and which crash follows.
 #[derive(Clone, Copy)]
-pub(crate) struct Fault {
+pub(crate) struct CallFault {
     pub(crate) n: u64,
     pub(crate) kept: bool,
     pub(crate) mask: Mask,
@@ -33,7 +33,7 @@ struct Course {
 /// The step at which a call failed is the first, and makes no call after it.
 fn meet(
     subject: &Subject<Global>,
-    fault: Fault,
+    fault: CallFault,
     course: &mut Course,
     step: Step,
 ) -> Result<(), Trouble> {
@@ -92,7 +92,7 @@ fn make<R: Threads + Sync>(
     rt: &R,
     subject: &mut Subject<Global>,
     machine: &mut Machine,
-    (fault, course): (Fault, &mut Course),
+    (fault, course): (CallFault, &mut Course),
     step: Step,
 ) -> Result<(), Trouble> {
     let found = subject.answer(rt, step);
@@ -111,7 +111,7 @@ pub(crate) fn make_all<R: Threads + Sync>(
     rt: &R,
     subject: &mut Subject<Global>,
     machine: &mut Machine,
-    fault: Fault,
+    fault: CallFault,
     steps: &[Step],
 ) -> Result<bool, Trouble> {
     subject.fail(fault.n, fault.kept);
@@ -133,7 +133,7 @@ fn attack<R: Threads + Sync>(
     rt: &R,
     alloc: Global,
     attacked: &Attacked,
-    fault: Fault,
+    fault: CallFault,
 ) -> Result<bool, Trouble> {
     let (mut subject, mut machine) = attacked.start(rt, &alloc)?;
     let met = make_all(rt, &mut subject, &mut machine, fault, &attacked.steps)?;
@@ -154,7 +154,7 @@ fn attack_at<R: Threads + Sync>(
     for (turn, mask) in [(0, none), (1, all), (2, even), (3, odd)] {
         for kept in [false, true] {
             if extent.takes(n, turn, 4) {
-                met = attack(rt, alloc, attacked, Fault { n, kept, mask })?;
+                met = attack(rt, alloc, attacked, CallFault { n, kept, mask })?;
                 tally.count_case();
                 tally.count_failed(met);
                 tally.count_opening();

@@ -12,9 +12,9 @@ use std::thread::Threads;
 use test_compared_steps::beginnings::begun;
 use test_compared_steps::disk::Disk;
 use test_compared_steps::draws::Draws;
-use test_compared_steps::image::{Image, Sector};
+use test_compared_steps::image::{PlainImage, Sector};
 use test_compared_steps::layout::manifest_of;
-use test_compared_steps::lists::{Line, steps_of};
+use test_compared_steps::lists::{ListedStep, steps_of};
 use test_compared_steps::plain::{Answer, Step};
 use test_compared_steps::subject::{Subject, open};
 use test_compared_steps::trouble::Trouble;
@@ -38,7 +38,7 @@ fn change(disk: &mut Disk, spot: Spot) -> bool {
 }
 
 /// A device on which an image stands, with these changes.
-fn changed(alloc: Global, image: &Image, spots: &[Spot]) -> Result<Disk, Trouble> {
+fn changed(alloc: Global, image: &PlainImage, spots: &[Spot]) -> Result<Disk, Trouble> {
     let mut disk = image.disk(alloc)?;
     for spot in spots {
         if !change(&mut disk, *spot) {
@@ -64,7 +64,12 @@ fn is_as_it_was(disk: &mut Disk, sector: Sector, spots: &[Spot]) -> bool {
 }
 
 /// Whether a device is as it was before an opening was refused: no write came, and the image stands.
-fn is_untouched(disk: Disk, before: u64, image: &Image, spots: &[Spot]) -> Result<(), Trouble> {
+fn is_untouched(
+    disk: Disk,
+    before: u64,
+    image: &PlainImage,
+    spots: &[Spot],
+) -> Result<(), Trouble> {
     let mut disk = disk;
     let mut same = disk.writes() == before;
     for sector in image.sectors.iter() {
@@ -181,7 +186,7 @@ fn work_all<R: Threads + Sync>(
 
 /// Images that are changed, and what is done with their stores.
 struct Tried {
-    image: Image,
+    image: PlainImage,
     calls: Vec<Step>,
     work: Vec<Step>,
 }
@@ -326,9 +331,13 @@ fn try_sector(
 }
 
 /// The image that some lines make, to be changed.
-fn to_change<R: Threads + Sync>(rt: &R, alloc: Global, past: &[Line]) -> Result<Tried, Trouble> {
+fn to_change<R: Threads + Sync>(
+    rt: &R,
+    alloc: Global,
+    past: &[ListedStep],
+) -> Result<Tried, Trouble> {
     let beginning = begun(rt, alloc, past)?;
-    let image = Image {
+    let image = PlainImage {
         sectors: Vec::from_slice(alloc, &beginning.image.sectors)?,
     };
     Ok(Tried {

@@ -1,7 +1,7 @@
 //! Random lives of a store, each of which ends with a crash.
 
 use crate::checks::checked;
-use crate::faults::{Fault, make_all};
+use crate::faults::{CallFault, make_all};
 use crate::tally::Tally;
 use lsm_check::Report;
 use lsm_store::Stat;
@@ -24,13 +24,13 @@ const LONG: u32 = 700;
 const SHORT: u32 = 50;
 
 /// A call that fails in two of three short lives, and none in a long one; and a crash.
-fn fault(draws: &mut Draws, length: u32) -> Fault {
+fn fault(draws: &mut Draws, length: u32) -> CallFault {
     let n = if length == LONG || draws.below(3) == 0 {
         u64::MAX
     } else {
         draws.below(100).into()
     };
-    Fault {
+    CallFault {
         n,
         kept: draws.below(2) == 0,
         mask: draws.wide(),
@@ -63,7 +63,7 @@ fn live<R: Threads + Sync>(
     subject: Subject<Global>,
     machine: &mut Machine,
     steps: &[Step],
-    fault: Fault,
+    fault: CallFault,
 ) -> Result<(Disk, bool), Trouble> {
     let mut subject = subject;
     let failed = make_all(rt, &mut subject, machine, fault, steps)?;

@@ -8,7 +8,7 @@ use std::thread::Threads;
 use test_compared_steps::beginnings::{Beginning, lived};
 use test_compared_steps::disk::{Disk, MASKS, Mask};
 use test_compared_steps::draws::Draws;
-use test_compared_steps::image::Image;
+use test_compared_steps::image::PlainImage;
 use test_compared_steps::layout::{make_old, numbers_in};
 use test_compared_steps::playing::find;
 use test_compared_steps::subject::open;
@@ -38,7 +38,7 @@ fn stopped(
 
 /// What a stopped opening of an image left. It wrote nothing after superblocks and manifests.
 fn left(alloc: Global, beginning: &Beginning, disk: &mut Disk) -> Result<Beginning, Trouble> {
-    let image = Image::of(alloc, disk)?;
+    let image = PlainImage::of(alloc, disk)?;
     if image.sum_from(LOGS) != beginning.image.sum_from(LOGS) {
         return Err(Trouble::Written);
     }

@@ -3,133 +3,133 @@
 use crate::attacked::List;
 use lsm_store::{At, Choice};
 use test_compared_steps::beginnings::After;
-use test_compared_steps::lists::Line;
+use test_compared_steps::lists::ListedStep;
 use test_compared_steps::plain::{Change, Condition, Division, Step, Value};
 
 /// Four runs of level 0, of which the merge of the oldest comes next.
-pub(crate) const FOUR_RUNS: [Line; 4] = [
-    Line::Flush(1, 1),
-    Line::Flush(2, 2),
-    Line::Flush(3, 3),
-    Line::Flush(4, 4),
+pub(crate) const FOUR_RUNS: [ListedStep; 4] = [
+    ListedStep::Flush(1, 1),
+    ListedStep::Flush(2, 2),
+    ListedStep::Flush(3, 3),
+    ListedStep::Flush(4, 4),
 ];
 
 /// As many runs of level 0 as may be there.
-pub(crate) const TWELVE_RUNS: [Line; 12] = [
-    Line::Flush(1, 1),
-    Line::Flush(2, 2),
-    Line::Flush(3, 3),
-    Line::Flush(4, 4),
-    Line::Flush(5, 5),
-    Line::Flush(6, 6),
-    Line::Flush(7, 7),
-    Line::Flush(8, 8),
-    Line::Flush(9, 9),
-    Line::Flush(10, 10),
-    Line::Flush(11, 11),
-    Line::Flush(12, 12),
+pub(crate) const TWELVE_RUNS: [ListedStep; 12] = [
+    ListedStep::Flush(1, 1),
+    ListedStep::Flush(2, 2),
+    ListedStep::Flush(3, 3),
+    ListedStep::Flush(4, 4),
+    ListedStep::Flush(5, 5),
+    ListedStep::Flush(6, 6),
+    ListedStep::Flush(7, 7),
+    ListedStep::Flush(8, 8),
+    ListedStep::Flush(9, 9),
+    ListedStep::Flush(10, 10),
+    ListedStep::Flush(11, 11),
+    ListedStep::Flush(12, 12),
 ];
 
 /// Three runs of level 0, a table of level 1, and two batches after them.
-const TABLES: [Line; 8] = [
-    Line::Flush(1, 1),
-    Line::Flush(2, 2),
-    Line::Flush(1, 3),
-    Line::Flush(3, 4),
-    Line::Job(5),
-    Line::Put(4),
-    Line::Delete(2),
-    Line::One(Step::Sync),
+const TABLES: [ListedStep; 8] = [
+    ListedStep::Flush(1, 1),
+    ListedStep::Flush(2, 2),
+    ListedStep::Flush(1, 3),
+    ListedStep::Flush(3, 4),
+    ListedStep::Job(5),
+    ListedStep::Put(4),
+    ListedStep::Delete(2),
+    ListedStep::One(Step::Sync),
 ];
 
 /// Five runs of level 0.
-const FIVE_RUNS: [Line; 7] = [
-    Line::Flush(1, 1),
-    Line::Flush(2, 2),
-    Line::Flush(3, 3),
-    Line::Delete(2),
-    Line::Flush(1, 4),
-    Line::Long(4, 9),
-    Line::Flush(3, 5),
+const FIVE_RUNS: [ListedStep; 7] = [
+    ListedStep::Flush(1, 1),
+    ListedStep::Flush(2, 2),
+    ListedStep::Flush(3, 3),
+    ListedStep::Delete(2),
+    ListedStep::Flush(1, 4),
+    ListedStep::Long(4, 9),
+    ListedStep::Flush(3, 5),
 ];
 
 /// Two batches in a log, and one in a table before them.
-pub(crate) const BATCHES: [Line; 4] = [
-    Line::Flush(1, 1),
-    Line::Put(2),
-    Line::Long(3, 600),
-    Line::One(Step::Sync),
+pub(crate) const BATCHES: [ListedStep; 4] = [
+    ListedStep::Flush(1, 1),
+    ListedStep::Put(2),
+    ListedStep::Long(3, 600),
+    ListedStep::One(Step::Sync),
 ];
 
 /// Gets and scans of all of them.
-const READS: [Line; 9] = [
-    Line::Get(1),
-    Line::Get(2),
-    Line::Get(3),
-    Line::Get(4),
-    Line::Get(5),
-    Line::Scan(0, 64),
-    Line::Scan(1, 1),
-    Line::Scan(3, 64),
-    Line::One(Step::Scan(At::Now, 0, 0)),
+const READS: [ListedStep; 9] = [
+    ListedStep::Get(1),
+    ListedStep::Get(2),
+    ListedStep::Get(3),
+    ListedStep::Get(4),
+    ListedStep::Get(5),
+    ListedStep::Scan(0, 64),
+    ListedStep::Scan(1, 1),
+    ListedStep::Scan(3, 64),
+    ListedStep::One(Step::Scan(At::Now, 0, 0)),
 ];
 
 /// A rotation and the flush after it, as the first job.
-const ROTATED: [Line; 8] = [
-    Line::One(Step::Rotate),
-    Line::One(Step::Rotate),
-    Line::Job(1),
-    Line::Put(7),
-    Line::One(Step::Stat),
-    Line::One(Step::Room),
-    Line::One(Step::Sync),
-    Line::Scan(0, 64),
+const ROTATED: [ListedStep; 8] = [
+    ListedStep::One(Step::Rotate),
+    ListedStep::One(Step::Rotate),
+    ListedStep::Job(1),
+    ListedStep::Put(7),
+    ListedStep::One(Step::Stat),
+    ListedStep::One(Step::Room),
+    ListedStep::One(Step::Sync),
+    ListedStep::Scan(0, 64),
 ];
 
 /// A merge of level 0, and the next flush.
-const MERGED: [Line; 6] = [
-    Line::Job(1),
-    Line::Put(5),
-    Line::One(Step::Rotate),
-    Line::Job(2),
-    Line::One(Step::Stat),
-    Line::Scan(0, 64),
+const MERGED: [ListedStep; 6] = [
+    ListedStep::Job(1),
+    ListedStep::Put(5),
+    ListedStep::One(Step::Rotate),
+    ListedStep::Job(2),
+    ListedStep::One(Step::Stat),
+    ListedStep::Scan(0, 64),
 ];
 
 /// The merge of the oldest three runs; of those after it there are too few for another.
-const THREE_MERGED: [Line; 10] = [
-    Line::One(Step::TakeOf(Choice::OldestRuns { count: 3 })),
-    Line::One(Step::Read(1)),
-    Line::Put(5),
-    Line::One(Step::Build(1, 2)),
-    Line::One(Step::Accept(1)),
-    Line::One(Step::Write(1)),
-    Line::One(Step::Install(1)),
-    Line::One(Step::TakeOf(Choice::OldestRuns { count: 2 })),
-    Line::One(Step::Stat),
-    Line::Scan(0, 64),
+const THREE_MERGED: [ListedStep; 10] = [
+    ListedStep::One(Step::TakeOf(Choice::OldestRuns { count: 3 })),
+    ListedStep::One(Step::Read(1)),
+    ListedStep::Put(5),
+    ListedStep::One(Step::Build(1, 2)),
+    ListedStep::One(Step::Accept(1)),
+    ListedStep::One(Step::Write(1)),
+    ListedStep::One(Step::Install(1)),
+    ListedStep::One(Step::TakeOf(Choice::OldestRuns { count: 2 })),
+    ListedStep::One(Step::Stat),
+    ListedStep::Scan(0, 64),
 ];
 
 /// A flush and a merge side by side.
-const SIDE_BY_SIDE: [Line; 18] = [
-    Line::Put(6),
-    Line::One(Step::Rotate),
-    Line::One(Step::Take),
-    Line::One(Step::Take),
-    Line::One(Step::Take),
-    Line::One(Step::Read(2)),
-    Line::One(Step::Build(1, 1)),
-    Line::One(Step::Accept(2)),
-    Line::One(Step::Accept(1)),
-    Line::One(Step::Build(2, 1)),
-    Line::One(Step::Accept(2)),
-    Line::One(Step::Write(2)),
-    Line::One(Step::Write(1)),
-    Line::One(Step::Install(2)),
-    Line::Put(8),
-    Line::One(Step::Install(1)),
-    Line::One(Step::Drop(1)),
-    Line::Scan(0, 64),
+const SIDE_BY_SIDE: [ListedStep; 18] = [
+    ListedStep::Put(6),
+    ListedStep::One(Step::Rotate),
+    ListedStep::One(Step::Take),
+    ListedStep::One(Step::Take),
+    ListedStep::One(Step::Take),
+    ListedStep::One(Step::Read(2)),
+    ListedStep::One(Step::Build(1, 1)),
+    ListedStep::One(Step::Accept(2)),
+    ListedStep::One(Step::Accept(1)),
+    ListedStep::One(Step::Build(2, 1)),
+    ListedStep::One(Step::Accept(2)),
+    ListedStep::One(Step::Write(2)),
+    ListedStep::One(Step::Write(1)),
+    ListedStep::One(Step::Install(2)),
+    ListedStep::Put(8),
+    ListedStep::One(Step::Install(1)),
+    ListedStep::One(Step::Drop(1)),
+    ListedStep::Scan(0, 64),
 ];
 
 /// A guard that asks for the value of one byte, the key's, and those that ask for none.
@@ -149,98 +149,98 @@ pub(crate) const LACKS_9: Condition = Condition {
 };
 
 /// Commits of one sector and of two, also under guards of keys in memory, and syncs.
-const COMMITS: [Line; 12] = [
-    Line::Put(1),
-    Line::Long(2, 600),
-    Line::One(Step::Sync),
-    Line::Get(2),
-    Line::One(Step::Commit(Change::Both(1, 2))),
-    Line::One(Step::SyncTo(1)),
-    Line::One(Step::SyncTo(4)),
-    Line::One(Step::SyncTo(3)),
-    Line::Put(3),
-    Line::One(Step::CommitIf(HAS_3, LACKS_9, Change::Put(4, 4, 600))),
-    Line::One(Step::CommitIf(HAS_3, LACKS_1, Change::Delete(3))),
-    Line::Scan(0, 64),
+const COMMITS: [ListedStep; 12] = [
+    ListedStep::Put(1),
+    ListedStep::Long(2, 600),
+    ListedStep::One(Step::Sync),
+    ListedStep::Get(2),
+    ListedStep::One(Step::Commit(Change::Both(1, 2))),
+    ListedStep::One(Step::SyncTo(1)),
+    ListedStep::One(Step::SyncTo(4)),
+    ListedStep::One(Step::SyncTo(3)),
+    ListedStep::Put(3),
+    ListedStep::One(Step::CommitIf(HAS_3, LACKS_9, Change::Put(4, 4, 600))),
+    ListedStep::One(Step::CommitIf(HAS_3, LACKS_1, Change::Delete(3))),
+    ListedStep::Scan(0, 64),
 ];
 
 /// A batch that fills the log, and what comes after it.
-const FULL: [Line; 8] = [
-    Line::One(Step::Commit(Change::Fill)),
-    Line::Put(1),
-    Line::One(Step::Room),
-    Line::One(Step::Rotate),
-    Line::Put(1),
-    Line::Get(30),
-    Line::Scan(0, 64),
-    Line::Scan(28, 2),
+const FULL: [ListedStep; 8] = [
+    ListedStep::One(Step::Commit(Change::Fill)),
+    ListedStep::Put(1),
+    ListedStep::One(Step::Room),
+    ListedStep::One(Step::Rotate),
+    ListedStep::Put(1),
+    ListedStep::Get(30),
+    ListedStep::Scan(0, 64),
+    ListedStep::Scan(28, 2),
 ];
 
 /// Snapshots over a flush.
-const SNAPSHOTS: [Line; 20] = [
-    Line::Put(1),
-    Line::Long(1, 2),
-    Line::One(Step::Rotate),
-    Line::One(Step::Take),
-    Line::One(Step::Snapshot),
-    Line::Long(1, 3),
-    Line::One(Step::Snapshot),
-    Line::Delete(1),
-    Line::One(Step::Build(1, 1)),
-    Line::One(Step::Accept(1)),
-    Line::One(Step::Write(1)),
-    Line::One(Step::Install(1)),
-    Line::One(Step::Get(At::Snap(1), 1)),
-    Line::One(Step::Get(At::Snap(2), 1)),
-    Line::Get(1),
-    Line::One(Step::Rotate),
-    Line::Job(2),
-    Line::One(Step::Get(At::Snap(2), 1)),
-    Line::One(Step::Release(1)),
-    Line::One(Step::Scan(At::Snap(1), 0, 64)),
+const SNAPSHOTS: [ListedStep; 20] = [
+    ListedStep::Put(1),
+    ListedStep::Long(1, 2),
+    ListedStep::One(Step::Rotate),
+    ListedStep::One(Step::Take),
+    ListedStep::One(Step::Snapshot),
+    ListedStep::Long(1, 3),
+    ListedStep::One(Step::Snapshot),
+    ListedStep::Delete(1),
+    ListedStep::One(Step::Build(1, 1)),
+    ListedStep::One(Step::Accept(1)),
+    ListedStep::One(Step::Write(1)),
+    ListedStep::One(Step::Install(1)),
+    ListedStep::One(Step::Get(At::Snap(1), 1)),
+    ListedStep::One(Step::Get(At::Snap(2), 1)),
+    ListedStep::Get(1),
+    ListedStep::One(Step::Rotate),
+    ListedStep::Job(2),
+    ListedStep::One(Step::Get(At::Snap(2), 1)),
+    ListedStep::One(Step::Release(1)),
+    ListedStep::One(Step::Scan(At::Snap(1), 0, 64)),
 ];
 
 /// A scan at a snapshot over a flush.
-const SCANS: [Line; 12] = [
-    Line::Put(1),
-    Line::Put(2),
-    Line::Put(3),
-    Line::One(Step::Snapshot),
-    Line::One(Step::Scan(At::Snap(1), 0, 1)),
-    Line::One(Step::Rotate),
-    Line::Delete(2),
-    Line::Job(1),
-    Line::One(Step::Scan(At::Snap(1), 2, 1)),
-    Line::One(Step::Scan(At::Snap(1), 3, 1)),
-    Line::Scan(0, 64),
-    Line::One(Step::Stat),
+const SCANS: [ListedStep; 12] = [
+    ListedStep::Put(1),
+    ListedStep::Put(2),
+    ListedStep::Put(3),
+    ListedStep::One(Step::Snapshot),
+    ListedStep::One(Step::Scan(At::Snap(1), 0, 1)),
+    ListedStep::One(Step::Rotate),
+    ListedStep::Delete(2),
+    ListedStep::Job(1),
+    ListedStep::One(Step::Scan(At::Snap(1), 2, 1)),
+    ListedStep::One(Step::Scan(At::Snap(1), 3, 1)),
+    ListedStep::Scan(0, 64),
+    ListedStep::One(Step::Stat),
 ];
 
 /// Five flushes and two merges.
-const JOBS: [Line; 11] = [
-    Line::Flush(1, 1),
-    Line::Delete(1),
-    Line::Flush(2, 2),
-    Line::Flush(2, 3),
-    Line::Flush(3, 4),
-    Line::Job(5),
-    Line::Flush(4, 6),
-    Line::Job(7),
-    Line::Get(1),
-    Line::One(Step::Stat),
-    Line::Scan(0, 64),
+const JOBS: [ListedStep; 11] = [
+    ListedStep::Flush(1, 1),
+    ListedStep::Delete(1),
+    ListedStep::Flush(2, 2),
+    ListedStep::Flush(2, 3),
+    ListedStep::Flush(3, 4),
+    ListedStep::Job(5),
+    ListedStep::Flush(4, 6),
+    ListedStep::Job(7),
+    ListedStep::Get(1),
+    ListedStep::One(Step::Stat),
+    ListedStep::Scan(0, 64),
 ];
 
 /// A table of a delete and a put goes down from level 1 to level 4, where the delete has nothing left to hide.
-const DELETES: [Line; 8] = [
-    Line::Job(1),
-    Line::Job(2),
-    Line::Get(2),
-    Line::Job(3),
-    Line::One(Step::Take),
-    Line::One(Step::Stat),
-    Line::Get(2),
-    Line::Scan(0, 64),
+const DELETES: [ListedStep; 8] = [
+    ListedStep::Job(1),
+    ListedStep::Job(2),
+    ListedStep::Get(2),
+    ListedStep::Job(3),
+    ListedStep::One(Step::Take),
+    ListedStep::One(Step::Stat),
+    ListedStep::Get(2),
+    ListedStep::Scan(0, 64),
 ];
 
 const AT_2_AND_3: Division = Division {
@@ -249,32 +249,32 @@ const AT_2_AND_3: Division = Division {
 };
 
 /// Three neighbours of level 1: of key 1, of key 2, and of keys 3 and 4.
-const NEIGHBOURS: [Line; 5] = [
-    Line::Flush(1, 1),
-    Line::Flush(2, 2),
-    Line::Flush(3, 3),
-    Line::Flush(4, 4),
-    Line::Chosen(Choice::OldestRuns { count: 4 }, 5, AT_2_AND_3),
+const NEIGHBOURS: [ListedStep; 5] = [
+    ListedStep::Flush(1, 1),
+    ListedStep::Flush(2, 2),
+    ListedStep::Flush(3, 3),
+    ListedStep::Flush(4, 4),
+    ListedStep::Chosen(Choice::OldestRuns { count: 4 }, 5, AT_2_AND_3),
 ];
 
 /// A rewrite of neighbours in their own place, along with which a flush goes on and no other merge, and one that keeps nothing, since
 /// its delete hides nothing more.
-const REWRITTEN: [Line; 19] = [
-    Line::One(Step::TakeOf(Choice::Rewrite { first: 5, last: 6 })),
-    Line::One(Step::TakeOf(Choice::Tables { first: 7, last: 7 })),
-    Line::One(Step::Snapshot),
-    Line::Delete(2),
-    Line::One(Step::Rotate),
-    Line::Job(2),
-    Line::One(Step::Read(1)),
-    Line::One(Step::Build(1, 1)),
-    Line::One(Step::Accept(1)),
-    Line::One(Step::Write(1)),
-    Line::One(Step::Install(1)),
-    Line::One(Step::TakeOf(Choice::Rewrite { first: 5, last: 7 })),
-    Line::Chosen(Choice::OldestRuns { count: 1 }, 3, AT_2_AND_3),
-    Line::One(Step::Release(1)),
-    Line::Chosen(
+const REWRITTEN: [ListedStep; 19] = [
+    ListedStep::One(Step::TakeOf(Choice::Rewrite { first: 5, last: 6 })),
+    ListedStep::One(Step::TakeOf(Choice::Tables { first: 7, last: 7 })),
+    ListedStep::One(Step::Snapshot),
+    ListedStep::Delete(2),
+    ListedStep::One(Step::Rotate),
+    ListedStep::Job(2),
+    ListedStep::One(Step::Read(1)),
+    ListedStep::One(Step::Build(1, 1)),
+    ListedStep::One(Step::Accept(1)),
+    ListedStep::One(Step::Write(1)),
+    ListedStep::One(Step::Install(1)),
+    ListedStep::One(Step::TakeOf(Choice::Rewrite { first: 5, last: 7 })),
+    ListedStep::Chosen(Choice::OldestRuns { count: 1 }, 3, AT_2_AND_3),
+    ListedStep::One(Step::Release(1)),
+    ListedStep::Chosen(
         Choice::Rewrite {
             first: 11,
             last: 11,
@@ -282,24 +282,24 @@ const REWRITTEN: [Line; 19] = [
         4,
         Division::NONE,
     ),
-    Line::One(Step::TakeOf(Choice::Rewrite { first: 10, last: 7 })),
-    Line::Get(2),
-    Line::One(Step::Stat),
-    Line::Scan(0, 64),
+    ListedStep::One(Step::TakeOf(Choice::Rewrite { first: 10, last: 7 })),
+    ListedStep::Get(2),
+    ListedStep::One(Step::Stat),
+    ListedStep::Scan(0, 64),
 ];
 
 /// Neighbours go down, alone and several, until a delete meets what it hides.
-const LOWERED: [Line; 10] = [
-    Line::One(Step::TakeOf(Choice::Tables { first: 1, last: 1 })),
-    Line::One(Step::TakeOf(Choice::Rewrite { first: 1, last: 1 })),
-    Line::One(Step::TakeOf(Choice::Tables { first: 3, last: 3 })),
-    Line::One(Step::Drop(1)),
-    Line::Chosen(Choice::Rewrite { first: 4, last: 4 }, 2, AT_2_AND_3),
-    Line::Chosen(Choice::Tables { first: 6, last: 7 }, 3, AT_2_AND_3),
-    Line::Chosen(Choice::Tables { first: 9, last: 9 }, 4, Division::NONE),
-    Line::Get(2),
-    Line::One(Step::Stat),
-    Line::Scan(0, 64),
+const LOWERED: [ListedStep; 10] = [
+    ListedStep::One(Step::TakeOf(Choice::Tables { first: 1, last: 1 })),
+    ListedStep::One(Step::TakeOf(Choice::Rewrite { first: 1, last: 1 })),
+    ListedStep::One(Step::TakeOf(Choice::Tables { first: 3, last: 3 })),
+    ListedStep::One(Step::Drop(1)),
+    ListedStep::Chosen(Choice::Rewrite { first: 4, last: 4 }, 2, AT_2_AND_3),
+    ListedStep::Chosen(Choice::Tables { first: 6, last: 7 }, 3, AT_2_AND_3),
+    ListedStep::Chosen(Choice::Tables { first: 9, last: 9 }, 4, Division::NONE),
+    ListedStep::Get(2),
+    ListedStep::One(Step::Stat),
+    ListedStep::Scan(0, 64),
 ];
 
 /// How many lists there are.
@@ -352,7 +352,7 @@ pub(crate) const LISTS: [List; COUNT] = [
         past: &[],
         after: After::Nothing,
         is_opened: false,
-        before: &[Line::Put(1), Line::Long(2, 600)],
+        before: &[ListedStep::Put(1), ListedStep::Long(2, 600)],
         steps: &ROTATED,
     },
     List {
@@ -438,59 +438,59 @@ pub(crate) const LISTS: [List; COUNT] = [
 ];
 
 /// A put in a table, and nothing else.
-pub(crate) const ONE_KEY: [Line; 1] = [Line::Flush(0x61, 1)];
+pub(crate) const ONE_KEY: [ListedStep; 1] = [ListedStep::Flush(0x61, 1)];
 
 /// Four runs of level 0, a table of level 1, and batches after them.
-pub(crate) const MANY_TABLES: [Line; 9] = [
-    Line::Flush(1, 1),
-    Line::Flush(2, 2),
-    Line::Flush(1, 3),
-    Line::Flush(3, 4),
-    Line::Job(5),
-    Line::Long(5, 2_000),
-    Line::Flush(2, 6),
-    Line::Delete(1),
-    Line::Long(4, 700),
+pub(crate) const MANY_TABLES: [ListedStep; 9] = [
+    ListedStep::Flush(1, 1),
+    ListedStep::Flush(2, 2),
+    ListedStep::Flush(1, 3),
+    ListedStep::Flush(3, 4),
+    ListedStep::Job(5),
+    ListedStep::Long(5, 2_000),
+    ListedStep::Flush(2, 6),
+    ListedStep::Delete(1),
+    ListedStep::Long(4, 700),
 ];
 
 /// What is done with a store of a foreign image: a get, a scan, a put, and calls after them.
-pub(crate) const CALLS: [Line; 19] = [
-    Line::Get(0x61),
-    Line::Get(1),
-    Line::Scan(0, 64),
-    Line::Put(0x62),
-    Line::One(Step::Sync),
-    Line::One(Step::Snapshot),
-    Line::One(Step::Get(At::Snap(1), 0x61)),
-    Line::One(Step::Rotate),
-    Line::One(Step::Stat),
-    Line::One(Step::Room),
-    Line::One(Step::SyncTo(1)),
-    Line::One(Step::Take),
-    Line::One(Step::Take),
-    Line::One(Step::Read(2)),
-    Line::One(Step::Read(1)),
-    Line::One(Step::Scan(At::Snap(1), 2, 1)),
-    Line::One(Step::Release(1)),
-    Line::One(Step::Drop(2)),
-    Line::Put(0x63),
+pub(crate) const CALLS: [ListedStep; 19] = [
+    ListedStep::Get(0x61),
+    ListedStep::Get(1),
+    ListedStep::Scan(0, 64),
+    ListedStep::Put(0x62),
+    ListedStep::One(Step::Sync),
+    ListedStep::One(Step::Snapshot),
+    ListedStep::One(Step::Get(At::Snap(1), 0x61)),
+    ListedStep::One(Step::Rotate),
+    ListedStep::One(Step::Stat),
+    ListedStep::One(Step::Room),
+    ListedStep::One(Step::SyncTo(1)),
+    ListedStep::One(Step::Take),
+    ListedStep::One(Step::Take),
+    ListedStep::One(Step::Read(2)),
+    ListedStep::One(Step::Read(1)),
+    ListedStep::One(Step::Scan(At::Snap(1), 2, 1)),
+    ListedStep::One(Step::Release(1)),
+    ListedStep::One(Step::Drop(2)),
+    ListedStep::Put(0x63),
 ];
 
 /// Jobs of a store of a foreign image.
-pub(crate) const WORK: [Line; 15] = [
-    Line::One(Step::Take),
-    Line::One(Step::Take),
-    Line::One(Step::Read(2)),
-    Line::One(Step::Build(2, 2)),
-    Line::One(Step::Accept(2)),
-    Line::One(Step::Write(2)),
-    Line::One(Step::Install(2)),
-    Line::Get(1),
-    Line::One(Step::Build(1, 1)),
-    Line::One(Step::Accept(1)),
-    Line::One(Step::Write(1)),
-    Line::One(Step::Install(1)),
-    Line::One(Step::Stat),
-    Line::Scan(0, 64),
-    Line::Put(3),
+pub(crate) const WORK: [ListedStep; 15] = [
+    ListedStep::One(Step::Take),
+    ListedStep::One(Step::Take),
+    ListedStep::One(Step::Read(2)),
+    ListedStep::One(Step::Build(2, 2)),
+    ListedStep::One(Step::Accept(2)),
+    ListedStep::One(Step::Write(2)),
+    ListedStep::One(Step::Install(2)),
+    ListedStep::Get(1),
+    ListedStep::One(Step::Build(1, 1)),
+    ListedStep::One(Step::Accept(1)),
+    ListedStep::One(Step::Write(1)),
+    ListedStep::One(Step::Install(1)),
+    ListedStep::One(Step::Stat),
+    ListedStep::Scan(0, 64),
+    ListedStep::Put(3),
 ];

@@ -20,7 +20,7 @@ const MOST: u64 = 10_000;
 
 /// The call that fails, counted from 0, whether it is kept where it is a write, which crash follows, and what is done after it.
 #[derive(Clone, Copy)]
-struct Fault {
+struct SessionFault {
     n: u64,
     kept: bool,
     mask: Mask,
@@ -29,7 +29,7 @@ struct Fault {
 
 /// Whether `made` calls agree with what the clients were told of the one that fails: a stopped store makes none after it, and
 /// neither does a session that ended with it.
-fn have_made(judge: &Judge<'_>, fault: Fault, made: u64) -> Result<(), Trouble> {
+fn have_made(judge: &Judge<'_>, fault: SessionFault, made: u64) -> Result<(), Trouble> {
     let is_last = judge.machine.is_stopped() || fault.then == Then::End;
     let is_right = match (judge.is_met, is_last) {
         (true, true) => made == fault.n.wrapping_add(1),
@@ -48,7 +48,7 @@ fn fail<R: Threads + Wait + Sync>(
     alloc: Global,
     beginning: &Beginning,
     sitting: &Sitting,
-    fault: Fault,
+    fault: SessionFault,
 ) -> Result<bool, Trouble> {
     let harm = Harm {
         heap: None,
@@ -85,7 +85,7 @@ fn fail_at<R: Threads + Wait + Sync>(
     ] {
         for kept in [false, true] {
             if extent.takes(n, turn, 4) {
-                let fault = Fault {
+                let fault = SessionFault {
                     n,
                     kept,
                     mask,

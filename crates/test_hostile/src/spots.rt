@@ -3,7 +3,7 @@
 use lsm_device::Refusal;
 use std::alloc::Global;
 use test_compared_steps::draws::Draws;
-use test_compared_steps::image::Image;
+use test_compared_steps::image::PlainImage;
 use test_compared_steps::layout::{Record, record_in};
 
 /// A byte of a sector that is changed.
@@ -22,7 +22,7 @@ pub(crate) fn set(bytes: &mut [u8; 512], spot: Spot) {
 }
 
 /// The byte of an image at a place.
-pub(crate) fn byte_at(image: &Image, at: u32, place: usize) -> u8 {
+pub(crate) fn byte_at(image: &PlainImage, at: u32, place: usize) -> u8 {
     for sector in image.sectors.iter() {
         if sector.at == at {
             return sector.bytes.get(place).copied().unwrap_or(0);
@@ -32,7 +32,7 @@ pub(crate) fn byte_at(image: &Image, at: u32, place: usize) -> u8 {
 }
 
 /// Whether a sector is not zero.
-pub(crate) fn has_sector(image: &Image, at: u32) -> bool {
+pub(crate) fn has_sector(image: &PlainImage, at: u32) -> bool {
     for sector in image.sectors.iter() {
         if sector.at == at {
             return true;
@@ -42,7 +42,7 @@ pub(crate) fn has_sector(image: &Image, at: u32) -> bool {
 }
 
 /// A change of a byte of some sector: any other byte, or one more or one less, and mostly one of the first bytes.
-fn drawn_spot(draws: &mut Draws, image: &Image) -> Spot {
+fn drawn_spot(draws: &mut Draws, image: &PlainImage) -> Spot {
     let chosen = draws.place(image.sectors.len());
     let at = match image.sectors.get(chosen) {
         Some(sector) => sector.at,
@@ -63,7 +63,7 @@ fn drawn_spot(draws: &mut Draws, image: &Image) -> Spot {
 pub(crate) fn drawn_spots(
     alloc: Global,
     draws: &mut Draws,
-    image: &Image,
+    image: &PlainImage,
 ) -> Result<Vec<Spot>, Refusal> {
     let mut spots = Vec::new(alloc);
     for _ in 0..draws.below(5).wrapping_add(1) {
@@ -107,7 +107,7 @@ fn drawn_bytes(draws: &mut Draws, field: u32) -> (u8, Option<u8>) {
 pub(crate) fn drawn_lie(
     alloc: Global,
     draws: &mut Draws,
-    image: &Image,
+    image: &PlainImage,
 ) -> Result<Vec<Spot>, Refusal> {
     let mut spots = Vec::new(alloc);
     let Some(record) = record_in(image, draws.place(5)) else {
