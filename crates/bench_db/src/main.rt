@@ -7,7 +7,7 @@
 
 mod workloads;
 
-use crate::workloads::{Sizes, Told, measure};
+use crate::workloads::{Sizes, Timing, measure};
 use anyhow::Result;
 use std::env;
 use std::process::ExitCode;
@@ -20,11 +20,11 @@ fn number(words: &[String], place: usize, default: u32) -> Result<u32> {
     }
 }
 
-fn print_rate<R: Print>(rt: &R, what: &str, told: Told) -> Result<()> {
+fn print_rate<R: Print>(rt: &R, what: &str, timing: Timing) -> Result<()> {
     println!(rt;
         "{what}: {} a second, longest {} microseconds",
-        told.rate(),
-        told.longest / 1_000
+        timing.rate(),
+        timing.longest / 1_000
     )?;
     Ok(())
 }
@@ -43,20 +43,23 @@ fn main(rt: HostRuntime) -> Result<ExitCode> {
         Some(path) => path.as_str(),
         None => "bench.img",
     };
-    let told = measure(&rt, path, sizes)?;
+    let timings = measure(&rt, path, sizes)?;
     if !words.is_empty() {
-        print_rate(&rt, "fill", told.fill)?;
-        print_rate(&rt, "overwrite", told.overwrite)?;
-        print_rate(&rt, "overwrite, buffered", told.buffered)?;
-        print_rate(&rt, "get", told.gets)?;
-        print_rate(&rt, "rows", told.rows)?;
-        println!(rt; "{} tables, {} blocks free", told.tables, told.free_blocks)?;
+        print_rate(&rt, "fill", timings.fill)?;
+        print_rate(&rt, "overwrite", timings.overwrite)?;
+        print_rate(&rt, "overwrite, buffered", timings.buffered)?;
+        print_rate(&rt, "get", timings.gets)?;
+        print_rate(&rt, "rows", timings.rows)?;
+        println!(rt;
+            "{} tables, {} blocks free",
+            timings.tables, timings.free_blocks
+        )?;
     }
     println!(rt;
         "{} of {} values are right, {} rows",
-        told.right, sizes.keys, told.row_count
+        timings.right, sizes.keys, timings.row_count
     )?;
-    if told.right == sizes.keys && told.row_count == sizes.keys {
+    if timings.right == sizes.keys && timings.row_count == sizes.keys {
         return Ok(ExitCode::SUCCESS);
     }
     Ok(ExitCode::FAILURE)

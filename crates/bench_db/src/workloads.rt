@@ -16,15 +16,15 @@ pub(crate) struct Sizes {
 
 /// The time of one workload, in nanoseconds.
 #[derive(Clone, Copy)]
-pub(crate) struct Told {
+pub(crate) struct Timing {
     pub(crate) count: u64,
     pub(crate) time: u64,
     pub(crate) longest: u64,
 }
 
-impl Told {
-    fn none() -> Told {
-        Told {
+impl Timing {
+    fn none() -> Timing {
+        Timing {
             count: 0,
             time: 0,
             longest: 0,
@@ -50,12 +50,12 @@ impl Told {
 
 /// All workloads.
 #[derive(Clone, Copy)]
-pub(crate) struct AllTold {
-    pub(crate) fill: Told,
-    pub(crate) overwrite: Told,
-    pub(crate) buffered: Told,
-    pub(crate) gets: Told,
-    pub(crate) rows: Told,
+pub(crate) struct AllTimings {
+    pub(crate) fill: Timing,
+    pub(crate) overwrite: Timing,
+    pub(crate) buffered: Timing,
+    pub(crate) gets: Timing,
+    pub(crate) rows: Timing,
     pub(crate) right: u32,
     pub(crate) row_count: u32,
     pub(crate) tables: usize,
@@ -88,15 +88,15 @@ fn put_all<R: Clock>(
     keys: u32,
     value: &mut [u8],
     byte: u8,
-) -> Result<Told> {
+) -> Result<Timing> {
     value.fill(byte);
-    let mut told = Told::none();
+    let mut timing = Timing::none();
     for number in 0..keys {
         let start = Instant::now(rt).ok();
         db.put(&key_of(number), value)?;
-        told.add(since(rt, start));
+        timing.add(since(rt, start));
     }
-    Ok(told)
+    Ok(timing)
 }
 
 // Puts the same values again, but has them wait for a commit of some 16 KiB.
@@ -105,17 +105,17 @@ fn put_buffered<R: Clock>(
     db: Db<FileDevice>,
     keys: u32,
     value: &[u8],
-) -> Result<(Told, Db<FileDevice>)> {
+) -> Result<(Timing, Db<FileDevice>)> {
     let mut buffered = BufferedDb::on(db);
-    let mut told = Told::none();
+    let mut timing = Timing::none();
     for number in 0..keys {
         let start = Instant::now(rt).ok();
         buffered.put(&key_of(number), value)?;
-        told.add(since(rt, start));
+        timing.add(since(rt, start));
     }
     buffered.commit()?;
     let (db, _) = buffered.into_parts();
-    Ok((told, db))
+    Ok((timing, db))
 }
 
 // Gets each key, and counts the values that are right.
@@ -124,37 +124,37 @@ fn get_all<R: Clock>(
     db: &mut Db<FileDevice>,
     keys: u32,
     value: &[u8],
-) -> Result<(Told, u32)> {
-    let mut told = Told::none();
+) -> Result<(Timing, u32)> {
+    let mut timing = Timing::none();
     let mut right = 0_u32;
     for number in 0..keys {
         let start = Instant::now(rt).ok();
         let found = db.get(&key_of(number))?;
-        told.add(since(rt, start));
+        timing.add(since(rt, start));
         if let Some(found) = found {
             if found.as_slice() == value {
                 right = right.saturating_add(1);
             }
         }
     }
-    Ok((told, right))
+    Ok((timing, right))
 }
 
 // Reads all rows in their order.
-fn read_all<R: Clock>(rt: &R, db: &mut Db<FileDevice>) -> Result<(Told, u32)> {
-    let mut told = Told::none();
+fn read_all<R: Clock>(rt: &R, db: &mut Db<FileDevice>) -> Result<(Timing, u32)> {
+    let mut timing = Timing::none();
     let mut count = 0_u32;
     let mut rows = db.rows(b"b", None)?;
     for _ in 0..u32::MAX {
         let start = Instant::now(rt).ok();
         let row = rows.next_row()?;
-        told.add(since(rt, start));
+        timing.add(since(rt, start));
         if row.is_none() {
             break;
         }
         count = count.saturating_add(1);
     }
-    Ok((told, count))
+    Ok((timing, count))
 }
 
 // A new store in a file, in which the rows fill at most half of the blocks.
@@ -177,7 +177,7 @@ pub(crate) fn measure<R: Files<File = File> + Clock + AllocGlobal>(
     rt: &R,
     path: &str,
     sizes: Sizes,
-) -> Result<AllTold> {
+) -> Result<AllTimings> {
     let mut db = create(rt, path, sizes)?;
     let mut value = Vec::new(rt.alloc());
     value.resize(sizes.value_bytes as usize, 0_u8)?;
@@ -187,7 +187,7 @@ pub(crate) fn measure<R: Files<File = File> + Clock + AllocGlobal>(
     let (gets, right) = get_all(rt, &mut db, sizes.keys, &value)?;
     let (rows, row_count) = read_all(rt, &mut db)?;
     let stat = db.stat()?;
-    Ok(AllTold {
+    Ok(AllTimings {
         fill,
         overwrite,
         buffered,

@@ -3,7 +3,7 @@
 use crate::clients::Task;
 use crate::clock::{now, since};
 use crate::puts::{Puts, put_all};
-use crate::reads::{Asked, count_right, scan};
+use crate::reads::{ReadPattern, count_right, scan};
 use crate::settling::{USUAL, Upkeep, Written};
 use crate::sizes::{CACHE, Sizes};
 use crate::subject::Subject;
@@ -49,7 +49,7 @@ impl Measured {
 fn right_of<D: Device + Drop>(
     subject: &mut Subject<D>,
     batches: u64,
-    asked: Asked,
+    pattern: ReadPattern,
     count: u32,
     round: u8,
 ) -> Result<u32, Refusal> {
@@ -57,7 +57,7 @@ fn right_of<D: Device + Drop>(
         return Ok(0);
     }
     match &mut subject.store {
-        Some(store) => count_right(store, asked, count, round),
+        Some(store) => count_right(store, pattern, count, round),
         None => Err(Refusal::Stopped),
     }
 }
@@ -92,14 +92,14 @@ pub(crate) fn put<R: Clock + Threads + Sync, D: Device + Drop>(
     let before = subject.stat()?.batches;
     let mut measured = puts_made(rt, alloc, subject, puts)?;
     let mut batches = u64::from(puts.batches());
-    let mut asked = Asked::Put;
+    let mut pattern = ReadPattern::Put;
     if puts.thins {
         measured.operations = puts.count.wrapping_add(puts.count / 2);
         batches = batches.wrapping_mul(2);
-        asked = Asked::Thinned;
+        pattern = ReadPattern::Thinned;
     }
     let batches = before.wrapping_add(batches);
-    measured.right = right_of(subject, batches, asked, puts.count, puts.round)?;
+    measured.right = right_of(subject, batches, pattern, puts.count, puts.round)?;
     Ok(measured)
 }
 
@@ -108,7 +108,7 @@ fn read<R: Clock, D: Device + Drop>(
     rt: &R,
     subject: &mut Subject<D>,
     sizes: Sizes,
-    asked: Option<Asked>,
+    pattern: Option<ReadPattern>,
     round: u8,
 ) -> Result<Measured, Refusal> {
     let Some(store) = &mut subject.store else {
@@ -116,8 +116,8 @@ fn read<R: Clock, D: Device + Drop>(
     };
     let mut measured = Measured::of(sizes.keys);
     let start = now(rt);
-    match asked {
-        Some(asked) => measured.right = count_right(store, asked, sizes.keys, round)?,
+    match pattern {
+        Some(pattern) => measured.right = count_right(store, pattern, sizes.keys, round)?,
         None => {
             let (pages, rows) = scan(store, sizes.scans, round)?;
             measured.operations = pages;
@@ -144,7 +144,7 @@ fn open<R: Clock + Threads + Sync, D: Device + Drop>(
         let batches = subject.stat()?.batches;
         let nanos = subject.reopen(rt, alloc, CACHE)?;
         measured.nanos = measured.nanos.saturating_add(nanos);
-        let right = right_of(subject, batches, Asked::Put, puts.count, puts.round)?;
+        let right = right_of(subject, batches, ReadPattern::Put, puts.count, puts.round)?;
         measured.right = measured.right.wrapping_add(right);
     }
     Ok(measured)
@@ -166,7 +166,7 @@ fn share<R: Clock + Threads + Wait + Sync, D: Device + Drop + Send>(
         measured.nanos = measured.nanos.saturating_add(nanos);
     }
     measured.wanted = commits;
-    measured.right = right_of(subject, batches, Asked::Put, commits, task.round)?;
+    measured.right = right_of(subject, batches, ReadPattern::Put, commits, task.round)?;
     Ok(measured)
 }
 
@@ -201,7 +201,13 @@ fn fill_beside<R: Clock + Threads + Wait + Sync, D: Device + Drop + Send>(
     measured.wait = times.longest;
     measured.held = free.saturating_sub(subject.stat()?.free_blocks);
     let batches = u64::from(filling.puts);
-    measured.right = right_of(subject, batches, Asked::Put, filling.puts, filling.round)?;
+    measured.right = right_of(
+        subject,
+        batches,
+        ReadPattern::Put,
+        filling.puts,
+        filling.round,
+    )?;
     Ok(measured)
 }
 
@@ -288,10 +294,10 @@ pub(crate) fn measure<R: Clock + Threads + Wait + Sync, D: Device + Drop + Send>
     let puts = puts_of(sizes, workload);
     match workload.work {
         Work::Commit(_) | Work::Load { .. } | Work::Keep { .. } => put(rt, alloc, subject, puts),
-        Work::Get(asked) => read(rt, subject, sizes, Some(asked), round),
+        Work::Get(pattern) => read(rt, subject, sizes, Some(pattern), round),
         Work::GetCold => {
             subject.reopen(rt, alloc, 1)?;
-            let measured = read(rt, subject, sizes, Some(Asked::Put), round)?;
+            let measured = read(rt, subject, sizes, Some(ReadPattern::Put), round)?;
             subject.reopen(rt, alloc, CACHE)?;
             Ok(measured)
         }

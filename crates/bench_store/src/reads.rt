@@ -10,7 +10,7 @@ const MOST_PAGES: u32 = 1_000_000;
 
 /// Which values are asked for.
 #[derive(Clone, Copy)]
-pub(crate) enum Asked {
+pub(crate) enum ReadPattern {
     /// Those of a round, in another order than that in which they were put.
     Put,
     /// Of every second key that of a round, and of the others none.
@@ -32,17 +32,17 @@ fn finds<D: Device>(store: &mut Store<D>, number: u32, round: Option<u8>) -> Res
 /// How many of `count` gets are answered right.
 pub(crate) fn count_right<D: Device>(
     store: &mut Store<D>,
-    asked: Asked,
+    pattern: ReadPattern,
     count: u32,
     round: u8,
 ) -> Result<u32, Refusal> {
     let mut right = 0_u32;
     for place in 0..count {
-        let (number, wanted) = match asked {
-            Asked::Put => (place.wrapping_mul(7_919) % count.max(1), Some(round)),
-            Asked::Thinned if place % 2 == 0 => (place, None),
-            Asked::Thinned => (place, Some(round)),
-            Asked::Nothing => (count.wrapping_add(place), None),
+        let (number, wanted) = match pattern {
+            ReadPattern::Put => (place.wrapping_mul(7_919) % count.max(1), Some(round)),
+            ReadPattern::Thinned if place % 2 == 0 => (place, None),
+            ReadPattern::Thinned => (place, Some(round)),
+            ReadPattern::Nothing => (count.wrapping_add(place), None),
         };
         if finds(store, number, wanted)? {
             right = right.wrapping_add(1);

@@ -1,6 +1,6 @@
 //! The workloads, in the order in which a run does them.
 
-use crate::reads::Asked;
+use crate::reads::ReadPattern;
 use crate::settling::Rule;
 
 /// What guards a put.
@@ -34,7 +34,7 @@ pub(crate) enum Work {
     /// Puts all keys, into an empty store or over what it has, with the rotations in the time, and with all jobs that a rule takes.
     Keep { way: Way, rule: Rule, fresh: bool },
     /// Gets each key, or as many that have no value.
-    Get(Asked),
+    Get(ReadPattern),
     /// Gets each key, from a store that was just opened with a cache of one block. The opening is not measured.
     GetCold,
     /// Scans the whole map, page by page.
@@ -164,13 +164,13 @@ pub(crate) const WORKLOADS: [Workload; 18] = [
     },
     Workload {
         name: "get hit",
-        work: Work::Get(Asked::Put),
+        work: Work::Get(ReadPattern::Put),
         aim: 840,
         round: 6,
     },
     Workload {
         name: "get miss",
-        work: Work::Get(Asked::Nothing),
+        work: Work::Get(ReadPattern::Nothing),
         aim: 2_000,
         round: 6,
     },
@@ -354,13 +354,13 @@ pub(crate) const LOOKS: [Workload; 5] = [
     },
     Workload {
         name: "get hit",
-        work: Work::Get(Asked::Put),
+        work: Work::Get(ReadPattern::Put),
         aim: 500,
         round: 8,
     },
     Workload {
         name: "get miss",
-        work: Work::Get(Asked::Nothing),
+        work: Work::Get(ReadPattern::Nothing),
         aim: 0,
         round: 8,
     },
