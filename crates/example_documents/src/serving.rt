@@ -1,7 +1,7 @@
 //! An example of lines that are answered.
 
 use lsm_device::Device;
-use lsm_language::{Fault, buffered};
+use lsm_language::{ProgramError, buffered};
 use lsm_serve::serve;
 use lsm_store::Store;
 use std::alloc::Global;
@@ -13,7 +13,7 @@ pub fn serve_lines<D: Device + Drop, I: Read, O: Write>(
     mut store: Store<D>,
     input: &mut I,
     output: &mut O,
-) -> Result<(), Fault> {
+) -> Result<(), ProgramError> {
     let mut lines = buffered(alloc, input)?;
     serve(alloc, &mut store, &mut lines, output)?;
     Ok(())

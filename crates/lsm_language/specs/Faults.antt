@@ -6,8 +6,8 @@ use Rattle.lsm_device.specs.Refusals.{number_of, name_of, place_of}
 use Rattle.lsm_language.specs.declared.cause.Cause.{Cause}
 use Rattle.lsm_language.specs.declared.cause.Cause.TheVariants.{InUse, Missing, NoFolder, Denied, Folder, NotAFile, Uneven, TooLarge}
 use Rattle.lsm_language.specs.declared.failure.Failure.{Failure}
-use Rattle.lsm_language.specs.declared.fault.Fault.{Fault}
-use Rattle.lsm_language.specs.declared.fault.Fault.TheVariants.{Usage, Refused, Failed, Unopened, Input, Output}
+use Rattle.lsm_language.specs.declared.program_error.ProgramError.{ProgramError}
+use Rattle.lsm_language.specs.declared.program_error.ProgramError.TheVariants.{Usage, Refused, Failed, Unopened, Input, Output}
 
 -- a mistake in the words or the input, a refusal, a file that can't be opened, an input that could not be read, or an answer that
 -- could not be written
@@ -18,7 +18,7 @@ pub data Reason : Type 0 where
   unread : Reason
   unwritten : Reason
 
-abbrev pub reason_of : Fault → Reason
+abbrev pub reason_of : ProgramError → Reason
 reason_of (Usage usage) = mistake
 reason_of (Refused r) = refusal r
 reason_of (Failed failure) = refusal failure.refusal

@@ -5,7 +5,7 @@ use Rattle.std.specs.Str.{is_utf8}
 use Rattle.lsm_device.specs.declared.refusal.Refusal.TheVariants.{NoMemory}
 use Rattle.lsm_language.specs.Faults.{reason_of, mistake, refusal}
 use Rattle.lsm_language.specs.Lines.{Said, fuse, crash, crash_all, line_said}
-use Rattle.lsm_language.specs.declared.fault.Fault.{Fault}
+use Rattle.lsm_language.specs.declared.program_error.ProgramError.{ProgramError}
 use Rattle.lsm_language.specs.declared.script.Kind.{Kind}
 use Rattle.lsm_language.specs.declared.script.Kind.TheVariants.{Steps, Lives}
 
@@ -71,6 +71,6 @@ abbrev pub script_said : Kind → List ℕ → Option (List Said)
 script_said kind text = script_from kind true [] (lines_in text)
 
 -- a reading is exact: it gives what the text says, and fails only where that is nothing, by a mistake, or for memory
-abbrev pub ReadsText : {X S : Type 0} → (X → S) → Option S → Result X Fault → Type 0
+abbrev pub ReadsText : {X S : Type 0} → (X → S) → Option S → Result X ProgramError → Type 0
 ReadsText view said result = MatchResult result (λ x. said ≡ Some (view x))
     (λ e. ((reason_of e ≡ mistake) × (said ≡ None)) ⊎ (reason_of e ≡ refusal NoMemory))

@@ -8,8 +8,8 @@ ghost use Rattle.lsm_language.specs.Reading.{PassesBy, TakesText};
 ghost use Rattle.lsm_language.specs.Requests.{wants_script};
 ghost use Rattle.lsm_language.specs.Scripts.{read_within, room_behind};
 
-use crate::fault::Fault;
 use crate::number::parse_number;
+use crate::program_error::ProgramError;
 use crate::reading::unread;
 use crate::subcommand::Subcommand;
 use lsm_device::Refusal;
@@ -28,7 +28,7 @@ pub fn script_text<I: Read>(
     alloc: Global,
     subcommand: &Subcommand<'_>,
     input: &mut I,
-) -> Result<Vec<u8>, Fault>
+) -> Result<Vec<u8>, ProgramError>
     ensures whole { IfOk result
         (λ text. IsTrue (wants_script subcommand.now)
         → IfSome (I.remaining input.old) (λ all. text.items ≡ read_within 300001 all)) }
@@ -59,7 +59,7 @@ pub fn buffered<I: Read>(alloc: Global, input: &mut I) -> Result<BufReader<&mut 
 }
 
 // Reads an input to its end, or to where a line is too long.
-fn read_text<I: BufRead>(input: &mut I, text: &mut Vec<u8>) -> Result<(), Fault>
+fn read_text<I: BufRead>(input: &mut I, text: &mut Vec<u8>) -> Result<(), ProgramError>
     requires { text.old.items ≡ [] }
     ensures whole { OnOk result
         (IfSome (I.remaining input.old) (λ all. text.new.items ≡ read_within 300001 all)) }
@@ -72,7 +72,7 @@ fn read_text<I: BufRead>(input: &mut I, text: &mut Vec<u8>) -> Result<(), Fault>
             None => return Ok(()),
         }
     }
-    Err(Fault::Input(ErrorKind::Interrupted.into()))
+    Err(ProgramError::Input(ErrorKind::Interrupted.into()))
 }
 
 // Takes what was read of an input, and tells how many bytes may still be read of the line that it then is in; none if nothing more is read.
@@ -80,7 +80,7 @@ fn take_text<I: BufRead>(
     input: &mut I,
     room: usize,
     text: &mut Vec<u8>,
-) -> Result<Option<usize>, Fault>
+) -> Result<Option<usize>, ProgramError>
     ensures takes { IfOk result
         (λ left. TakesText (I.remaining input.old) room text.old.items left text.new.items
         (I.remaining input.new)) }

@@ -5,7 +5,7 @@ ghost use Rattle.lsm_device.specs.declared.refusal.Refusal.TheVariants.{NoMemory
 ghost use Rattle.lsm_language.specs.Faults.{reason_of, refusal, unread};
 ghost use Rattle.lsm_language.specs.Reading.{ReadsLine, Takes};
 
-use crate::fault::Fault;
+use crate::program_error::ProgramError;
 use lsm_device::Refusal;
 use std::alloc::AllocError;
 use std::io;
@@ -27,7 +27,11 @@ pub enum Taken {
 /// Reads the next line of an input in the place of the one before it, without its newline, which may be missing after the
 /// last. Returns whether there is one. Of a line that has more than the most bytes no more is read once this is seen, and one byte more
 /// than the most is kept, by which the caller sees it too. An input of which 2^64 - 1 looks don't end a line can't be read.
-pub fn next_line<I: BufRead>(input: &mut I, most: usize, line: &mut Vec<u8>) -> Result<bool, Fault>
+pub fn next_line<I: BufRead>(
+    input: &mut I,
+    most: usize,
+    line: &mut Vec<u8>,
+) -> Result<bool, ProgramError>
     requires { most < 18446744073709551615 }
     ensures line { IfOk result
         (λ found. ReadsLine most (I.remaining input.old) found line.new.items
@@ -45,7 +49,7 @@ pub fn next_line<I: BufRead>(input: &mut I, most: usize, line: &mut Vec<u8>) -> 
             Taken::Part | Taken::Nothing => {}
         }
     }
-    Err(Fault::Input(ErrorKind::Interrupted.into()))
+    Err(ProgramError::Input(ErrorKind::Interrupted.into()))
 }
 
 // Whether what stands at the end of an input, without a newline, is a line: it has a byte.
@@ -56,7 +60,11 @@ fn is_line(line: &[u8]) -> bool
 }
 
 // Takes what was read of a line, and appends it to what is kept of it.
-fn take_piece<I: BufRead>(input: &mut I, most: usize, line: &mut Vec<u8>) -> Result<Taken, Fault>
+fn take_piece<I: BufRead>(
+    input: &mut I,
+    most: usize,
+    line: &mut Vec<u8>,
+) -> Result<Taken, ProgramError>
     requires few { length line.old.items ≤ most }
     requires most { most < 18446744073709551615 }
     ensures takes { IfOk result
@@ -106,11 +114,11 @@ fn keep(line: &mut Vec<u8>, bytes: &[u8], most: usize) -> Result<(), AllocError>
 }
 
 /// An input that can't be read, or no memory for what is read of it.
-pub(crate) fn unread(error: io::Error) -> Fault
+pub(crate) fn unread(error: io::Error) -> ProgramError
     ensures { (reason_of result ≡ refusal NoMemory) ⊎ (reason_of result ≡ unread) }
 {
     if error.kind() == ErrorKind::OutOfMemory {
-        return Fault::Refused(Refusal::NoMemory);
+        return ProgramError::Refused(Refusal::NoMemory);
     }
-    Fault::Input(error)
+    ProgramError::Input(error)
 }

@@ -11,13 +11,13 @@ ghost use Rattle.lsm_language.specs.Lines.{means};
 ghost use Rattle.lsm_language.specs.Requests.{bytes_in, limits_reason, load_reason, number_in, old_in, old_said, or_else, page_reason, put_if_refusal, said_reason};
 ghost use Rattle.lsm_language.specs.Scripts.{script_said};
 
-use crate::fault::{Fault, Usage};
 use crate::geometry::Geometry;
 use crate::guards::guard;
 use crate::keyed::Keyed;
 use crate::line::Line;
 use crate::load::Load;
 use crate::number::parse_number;
+use crate::program_error::{ProgramError, Usage};
 use crate::script::{Kind, read_script};
 use crate::subcommand::Subcommand;
 use lsm_codec::{Batch, Guard, Op, unword};
@@ -117,7 +117,7 @@ impl<'a> Request<'a> {
         alloc: Global,
         subcommand: Subcommand<'a>,
         text: &[u8],
-    ) -> Result<Request<'a>, Fault>
+    ) -> Result<Request<'a>, ProgramError>
         ensures { MatchResult result
             (λ r. (reason_for subcommand.entry text.now ≡ None) × Says subcommand.entry text.now r)
             (λ e. (reason_for subcommand.entry text.now ≡ Some (reason_of e))
@@ -193,7 +193,7 @@ impl<'a> Request<'a> {
 }
 
 // The sizes of a store that two words say.
-fn geometry_in(alloc: Global, sectors: &str, log: &str) -> Result<Geometry, Fault>
+fn geometry_in(alloc: Global, sectors: &str, log: &str) -> Result<Geometry, ProgramError>
     ensures { let reason = or_else (said_reason (number_said sectors.now))
         (or_else (said_reason (number_said log.now))
         (limits_reason (number_in sectors.now) (number_in log.now))) in
@@ -208,7 +208,7 @@ fn geometry_in(alloc: Global, sectors: &str, log: &str) -> Result<Geometry, Faul
 }
 
 // The batch that puts the value of one word under the key of another.
-fn put_in(alloc: Global, key: &str, value: &str) -> Result<Batch, Fault>
+fn put_in(alloc: Global, key: &str, value: &str) -> Result<Batch, ProgramError>
     ensures { let reason = or_else (said_reason (bytes_said key.now))
         (or_else (said_reason (bytes_said value.now))
         (option_map refusal
@@ -225,7 +225,12 @@ fn put_in(alloc: Global, key: &str, value: &str) -> Result<Batch, Fault>
 }
 
 // The guard that the key of one word has the value of another, or none, and the batch that puts the value of a third under it.
-fn put_if_in(alloc: Global, key: &str, old: &str, new: &str) -> Result<(Vec<Guard>, Batch), Fault>
+fn put_if_in(
+    alloc: Global,
+    key: &str,
+    old: &str,
+    new: &str,
+) -> Result<(Vec<Guard>, Batch), ProgramError>
     ensures { let reason = or_else (said_reason (bytes_said key.now))
         (or_else (said_reason (old_said old.now))
         (or_else (said_reason (bytes_said new.now))
@@ -258,7 +263,7 @@ fn put_if(alloc: Global, wanted: &Keyed, new: &[u8]) -> Result<(Vec<Guard>, Batc
 }
 
 // The batch that deletes the key of a word.
-fn delete_in(alloc: Global, key: &str) -> Result<Batch, Fault>
+fn delete_in(alloc: Global, key: &str) -> Result<Batch, ProgramError>
     ensures { let reason = or_else (said_reason (bytes_said key.now))
         (option_map refusal (key_refusal (bytes_in key.now))) in
         MatchResult result
@@ -271,7 +276,7 @@ fn delete_in(alloc: Global, key: &str) -> Result<Batch, Fault>
 }
 
 // The rows of a page that a word allows: 1 to 64.
-fn limit_in(alloc: Global, limit: &str) -> Result<u64, Fault>
+fn limit_in(alloc: Global, limit: &str) -> Result<u64, ProgramError>
     ensures { let reason = or_else (said_reason (number_said limit.now))
         (page_reason (number_in limit.now)) in
         MatchResult result (λ n. (reason ≡ None) × (number_said limit.now ≡ Some n))
@@ -279,7 +284,7 @@ fn limit_in(alloc: Global, limit: &str) -> Result<u64, Fault>
 {
     let limit = number(alloc, limit, "LIMIT")?;
     if !(1..=64).contains(&limit) {
-        return Err(Fault::Refused(Refusal::BadLimit));
+        return Err(ProgramError::Refused(Refusal::BadLimit));
     }
     Ok(limit)
 }
@@ -291,7 +296,7 @@ fn scripted(
     sectors: &str,
     log: &str,
     text: &[u8],
-) -> Result<(Geometry, Vec<Line>), Fault>
+) -> Result<(Geometry, Vec<Line>), ProgramError>
     ensures { let reason = or_else (said_reason (number_said sectors.now))
         (or_else (said_reason (number_said log.now))
         (or_else (said_reason (script_said kind text.now))
@@ -310,7 +315,7 @@ fn scripted(
 }
 
 // What three words let clients and workers do.
-fn load_in(alloc: Global, clients: &str, commits: &str, workers: &str) -> Result<Load, Fault>
+fn load_in(alloc: Global, clients: &str, commits: &str, workers: &str) -> Result<Load, ProgramError>
     ensures { let reason = or_else (said_reason (number_said clients.now))
         (or_else (said_reason (number_said commits.now))
         (or_else (said_reason (number_said workers.now))
@@ -329,7 +334,7 @@ fn load_in(alloc: Global, clients: &str, commits: &str, workers: &str) -> Result
 }
 
 // How many clients count together, and how often each tries: as clients and commits of a storm without workers.
-fn tally_in(alloc: Global, clients: &str, tries: &str) -> Result<Load, Fault>
+fn tally_in(alloc: Global, clients: &str, tries: &str) -> Result<Load, ProgramError>
     ensures { let reason = or_else (said_reason (number_said clients.now))
         (or_else (said_reason (number_said tries.now))
         (load_reason (number_in clients.now) (number_in tries.now) 0)) in
@@ -344,7 +349,7 @@ fn tally_in(alloc: Global, clients: &str, tries: &str) -> Result<Load, Fault>
 }
 
 // The number that the word at a place says.
-fn number(alloc: Global, word: &str, place: &'static str) -> Result<u64, Fault>
+fn number(alloc: Global, word: &str, place: &'static str) -> Result<u64, ProgramError>
     ensures { MatchResult result (λ n. number_said word.now ≡ Some n)
         (λ e. ((number_said word.now ≡ None) × (reason_of e ≡ mistake))
         ⊎ (reason_of e ≡ refusal NoMemory)) }
@@ -353,13 +358,13 @@ fn number(alloc: Global, word: &str, place: &'static str) -> Result<u64, Fault>
         Some(number) => Ok(number),
         None => {
             let word = String::from_str(alloc, word)?;
-            Err(Fault::Usage(Usage::Number { place, word }))
+            Err(ProgramError::Usage(Usage::Number { place, word }))
         }
     }
 }
 
 // The bytes that the word at a place says.
-fn bytes(alloc: Global, word: &str, place: &'static str) -> Result<Vec<u8>, Fault>
+fn bytes(alloc: Global, word: &str, place: &'static str) -> Result<Vec<u8>, ProgramError>
     ensures { MatchResult result (λ b. bytes_said word.now ≡ Some b.items)
         (λ e. ((bytes_said word.now ≡ None) × (reason_of e ≡ mistake))
         ⊎ (reason_of e ≡ refusal NoMemory)) }
@@ -368,13 +373,13 @@ fn bytes(alloc: Global, word: &str, place: &'static str) -> Result<Vec<u8>, Faul
         Some(bytes) => Ok(bytes),
         None => {
             let word = String::from_str(alloc, word)?;
-            Err(Fault::Usage(Usage::Bytes { place, word }))
+            Err(ProgramError::Usage(Usage::Bytes { place, word }))
         }
     }
 }
 
 // The value that a key is to have, as the word OLD says it: `absent` for none.
-fn old_value(alloc: Global, word: &str) -> Result<Option<Vec<u8>>, Fault>
+fn old_value(alloc: Global, word: &str) -> Result<Option<Vec<u8>>, ProgramError>
     ensures { MatchResult result
         (λ v. old_said word.now ≡ Some (option_map (λ bytes. bytes.items) v))
         (λ e. ((old_said word.now ≡ None) × (reason_of e ≡ mistake))
@@ -387,7 +392,7 @@ fn old_value(alloc: Global, word: &str) -> Result<Option<Vec<u8>>, Fault>
         Some(bytes) => Ok(Some(bytes)),
         None => {
             let word = String::from_str(alloc, word)?;
-            Err(Fault::Usage(Usage::Old { word }))
+            Err(ProgramError::Usage(Usage::Old { word }))
         }
     }
 }

@@ -6,9 +6,9 @@ ghost use Rattle.lsm_language.specs.Lines.{means};
 ghost use Rattle.lsm_language.specs.Words.{Reads};
 ghost use Rattle.lsm_language.specs.Scripts.{ReadsText, ends_life, lines_in, may_stand, next_said, script_said, text_said, utf8_said, without_newline};
 
-use crate::fault::{Fault, Usage};
 use crate::input::MOST_LINE;
 use crate::line::{Line, read_line};
+use crate::program_error::{ProgramError, Usage};
 use crate::showing::beginning;
 use crate::words::Unread;
 use lsm_device::Refusal;
@@ -24,7 +24,7 @@ pub enum Kind {
 }
 
 /// Reads a script. The first line that says nothing, or may not stand there, is a mistake.
-pub fn read_script(alloc: Global, kind: Kind, text: &[u8]) -> Result<Vec<Line>, Fault>
+pub fn read_script(alloc: Global, kind: Kind, text: &[u8]) -> Result<Vec<Line>, ProgramError>
     ensures { ReadsText (λ script. map means script.items) (script_said kind text.now) result }
 {
     let lines = lines_of(alloc, text)?;
@@ -72,20 +72,20 @@ fn next_line(
     begins: bool,
     text: &[u8],
     number: usize,
-) -> Result<Line, Fault>
+) -> Result<Line, ProgramError>
     ensures { ReadsText means (next_said kind begins text.now) result }
 {
     match read_text(alloc, text) {
         Ok(line) if is_allowed(kind, begins, &line) => Ok(line),
         Ok(_) => {
             let line = String::from_utf8_lossy(alloc, beginning(text))?;
-            Err(Fault::Usage(Usage::Misplaced { number, line }))
+            Err(ProgramError::Usage(Usage::Misplaced { number, line }))
         }
         Err(Unread::Malformed) => {
             let line = String::from_utf8_lossy(alloc, beginning(text))?;
-            Err(Fault::Usage(Usage::Line { number, line }))
+            Err(ProgramError::Usage(Usage::Line { number, line }))
         }
-        Err(Unread::NoMemory) => Err(Fault::Refused(Refusal::NoMemory)),
+        Err(Unread::NoMemory) => Err(ProgramError::Refused(Refusal::NoMemory)),
     }
 }
 

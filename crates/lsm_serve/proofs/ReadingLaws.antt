@@ -7,7 +7,7 @@ use Rattle.std.specs.Prelude.{IfOk, IfSome, is_some, slice_index}
 use Rattle.std.specs.Io.KnownBytes.{Consumes, Keeps}
 use Rattle.std.proofs.Math.Seq.{take-nil}
 use Rattle.std.proofs.lemmas.List.{length-take, take_more}
-use Rattle.lsm_language.specs.declared.fault.Fault.{Fault}
+use Rattle.lsm_language.specs.declared.program_error.ProgramError.{ProgramError}
 use Rattle.lsm_serve.specs.Reading.{HasNoNewline, TakesLine, most_kept}
 
 -- `begun` was read of a line, and its first bytes were kept, up to the most.
@@ -98,7 +98,7 @@ none_left (Some all) None begun none takes end = absurd takes
 none_left (Some all) (Some text) begun none takes end = takes ∙ ap (λ (l : List ℕ). l ++ text) none ∙ end
 
 -- the end of the input
-pub reading-end : (before left after : Option (List ℕ)) (read kept shown : List ℕ) (r : Result (Option Bool) Fault) → IsReading before read left
+pub reading-end : (before left after : Option (List ℕ)) (read kept shown : List ℕ) (r : Result (Option Bool) ProgramError) → IsReading before read left
     → (kept ≡ read) × IfSome left (λ text. text ≡ []) × Keeps left after → shown ≡ kept → IfOk r (λ found. (found ≡ None) × (length shown ≡ 0))
     → IfOk r (λ found. TakesLine before (is_some found) kept after)
 reading-end before left after read kept shown (Err e) reading ended is none = tt

@@ -4,7 +4,7 @@ use Rattle.std.specs.Prelude.{All, IfSome, MatchResult}
 use Rattle.std.specs.Io.KnownBytes.{Appends, Consumes, Keeps, append_known}
 use Rattle.lsm_device.specs.declared.refusal.Refusal.{Refusal}
 use Rattle.lsm_device.specs.declared.refusal.Refusal.TheVariants.{Exhausted, NoMemory, Stopped}
-use Rattle.lsm_language.specs.declared.fault.Fault.{Fault}
+use Rattle.lsm_language.specs.declared.program_error.ProgramError.{ProgramError}
 use Rattle.lsm_language.specs.Faults.{Reason, mistake, refusal, unopened, unread, unwritten, reason_of}
 use Rattle.lsm_store.specs.Backing.{StoreView}
 use Rattle.lsm_machine.specs.Calls.{Done, Refused, Sync, reply_of}
@@ -93,7 +93,7 @@ module _ (input left after : Option (List ℕ)) (number : ℕ) (before now new :
   }
 
   -- an answer that was not told
-  pub serving-untold : (found : Bool) (output_new : Option (List ℕ)) (fault : Fault) → found ≡ true → IsServing input left number before now output output_now
+  pub serving-untold : (found : Bool) (output_new : Option (List ℕ)) (fault : ProgramError) → found ≡ true → IsServing input left number before now output output_now
       → TakesLine left found kept after → AnswersLine now kept answered new → Untold (reason_of fault) output_now output_new
       → (s : AreServed input (Err fault) before new output output_new) × (1 ≤ length s.lines)
   serving-untold false output_new fault none s takes answers untold = absurd (true≢false (sym none))
@@ -162,7 +162,7 @@ ends_early : (reason : Reason) (lines : List (List ℕ)) → IsInputFault reason
 ends_early reason lines (inl e) = subst (λ (r : Reason). EndsEarly r lines) (sym e) tt
 ends_early reason lines (inr e) = subst (λ (r : Reason). EndsEarly r lines) (sym e) (inl refl)
 
-pub serving-fails : (input left : Option (List ℕ)) (number : ℕ) (before now : StoreView) (output output_now : Option (List ℕ)) (fault : Fault)
+pub serving-fails : (input left : Option (List ℕ)) (number : ℕ) (before now : StoreView) (output output_now : Option (List ℕ)) (fault : ProgramError)
     → IsServing input left number before now output output_now → IsInputFault (reason_of fault) → AreServed input (Err fault) before now output output_now
 serving-fails input left number before now output output_now fault s is = record {
   lines = s.lines;
@@ -180,7 +180,7 @@ as_many (line ∷ lines) (answered ∷ answers) before after (mid, first, rest) 
 as_many [] (answered ∷ answers) before after none = absurd none
 as_many (line ∷ lines) [] before after none = absurd none
 
-pub serving-exhausts : (input left : Option (List ℕ)) (number : ℕ) (before now : StoreView) (output output_now : Option (List ℕ)) (fault : Fault)
+pub serving-exhausts : (input left : Option (List ℕ)) (number : ℕ) (before now : StoreView) (output output_now : Option (List ℕ)) (fault : ProgramError)
     → IsServing input left number before now output output_now → reason_of fault ≡ refusal Exhausted → number ≡ 18446744073709551615
     → AreServed input (Err fault) before now output output_now
 serving-exhausts input left number before now output output_now fault s is last = record {
@@ -197,11 +197,11 @@ serving-exhausts input left number before now output output_now fault s is last 
 -- ---- a store that was served
 
 -- however a sync ends, it was asked for
-sync_asked : (ended : Result (Unit {0}) Fault) (last after : StoreView) → MatchResult ended (λ _. IsSynced last after) (λ e. IsUnsynced e last after) → IsAskedToSync last after
+sync_asked : (ended : Result (Unit {0}) ProgramError) (last after : StoreView) → MatchResult ended (λ _. IsSynced last after) (λ e. IsUnsynced e last after) → IsAskedToSync last after
 sync_asked (Ok done) last after synced = (synced.reply, synced.serves)
 sync_asked (Err fault) last after unsynced = (Refused unsynced.r, unsynced.serves)
 
-pub served-fails : (input : Option (List ℕ)) (fault : Fault) (before last after : StoreView) (output output_now : Option (List ℕ))
+pub served-fails : (input : Option (List ℕ)) (fault : ProgramError) (before last after : StoreView) (output output_now : Option (List ℕ))
     → AreServed input (Err fault) before last output output_now → IsAskedToSync last after → IsServed input (Err fault) before after output output_now
 served-fails input fault before last after output output_now s asked =
     record { lines = s.lines; answers = s.answers; last = last; serves = s.serves; come = s.come; told = s.told; ends = inl (asked, s.may) }
@@ -218,7 +218,7 @@ first_of_all input lines (none, all) = (none, by input all)
     by None is = tt
     by (Some text) is = ([], is ∙ sym (append-nil (lines_text lines)))
 
-pub served-unsynced : (input : Option (List ℕ)) (fault : Fault) (before last after : StoreView) (output output_now : Option (List ℕ))
+pub served-unsynced : (input : Option (List ℕ)) (fault : ProgramError) (before last after : StoreView) (output output_now : Option (List ℕ))
     → AreServed input (Ok tt) before last output output_now → IsUnsynced fault last after → IsServed input (Err fault) before after output output_now
 served-unsynced input fault before last after output output_now s unsynced = record {
   lines = s.lines;
@@ -230,13 +230,13 @@ served-unsynced input fault before last after output output_now s unsynced = rec
   ends = inr (record { all = s.come; told = s.told; unsynced = unsynced });
 }
 
-pub served-when : (input : Option (List ℕ)) (answered ended : Result (Unit {0}) Fault) (before last after : StoreView) (output output_now : Option (List ℕ)) → answered ≡ Ok tt
+pub served-when : (input : Option (List ℕ)) (answered ended : Result (Unit {0}) ProgramError) (before last after : StoreView) (output output_now : Option (List ℕ)) → answered ≡ Ok tt
     → AreServed input answered before last output output_now → MatchResult ended (λ _. IsSynced last after) (λ e. IsUnsynced e last after)
     → IsServed input ended before after output output_now
 served-when input answered (Ok done) before last after output output_now is s synced =
-    served-synced input before last after output output_now (subst (λ (r : Result (Unit {0}) Fault). AreServed input r before last output output_now) is s) synced
+    served-synced input before last after output output_now (subst (λ (r : Result (Unit {0}) ProgramError). AreServed input r before last output output_now) is s) synced
 served-when input answered (Err fault) before last after output output_now is s unsynced =
-    served-unsynced input fault before last after output output_now (subst (λ (r : Result (Unit {0}) Fault). AreServed input r before last output output_now) is s) unsynced
+    served-unsynced input fault before last after output output_now (subst (λ (r : Result (Unit {0}) ProgramError). AreServed input r before last output output_now) is s) unsynced
 
 -- ---- the end of a store
 
@@ -247,11 +247,11 @@ pub synced-stopped : (r : Result (Unit {0}) Refusal) (before after : StoreView) 
 synced-stopped r before after serves is =
     record { reply = Refused Stopped; serves = subst (λ (x : Result (Unit {0}) Refusal). Serves before Sync (reply_of (λ _. Done) x) after) is serves; synced = inr refl }
 
-pub served-fails-when : (input : Option (List ℕ)) (answered ended : Result (Unit {0}) Fault) (fault : Fault) (before last after : StoreView) (output output_now : Option (List ℕ))
+pub served-fails-when : (input : Option (List ℕ)) (answered ended : Result (Unit {0}) ProgramError) (fault : ProgramError) (before last after : StoreView) (output output_now : Option (List ℕ))
     → answered ≡ Err fault → AreServed input answered before last output output_now → MatchResult ended (λ _. IsSynced last after) (λ e. IsUnsynced e last after)
     → IsServed input (Err fault) before after output output_now
 served-fails-when input answered ended fault before last after output output_now is s synced =
-    served-fails input fault before last after output output_now (subst (λ (r : Result (Unit {0}) Fault). AreServed input r before last output output_now) is s)
+    served-fails input fault before last after output output_now (subst (λ (r : Result (Unit {0}) ProgramError). AreServed input r before last output output_now) is s)
     (sync_asked ended last after synced)
 
 -- ---- answers that are held
@@ -306,7 +306,7 @@ module _ (input left after : Option (List ℕ)) (number : ℕ) (before now new :
   }
 
   -- an answer for which there was no memory
-  pub held-untold : (fault : Fault) (same : List ℕ) → reason_of fault ≡ refusal NoMemory → same ≡ held → AreHeld input (Err fault) before new output output_now same
+  pub held-untold : (fault : ProgramError) (same : List ℕ) → reason_of fault ≡ refusal NoMemory → same ≡ held → AreHeld input (Err fault) before new output output_now same
   held-untold fault same is kept_same =
       let o = append_known output_now same in
       let as_held : o ≡ append_known output_now held = ap (append_known output_now) kept_same in
@@ -315,7 +315,7 @@ module _ (input left after : Option (List ℕ)) (number : ℕ) (before now new :
       record { served = s.0; some = inr s.1 }
 
   -- what is held can't be written
-  pub held-unwritten : (fault : Fault) (output_new : Option (List ℕ)) (held_new : List ℕ) → reason_of fault ≡ unwritten → AreHeld input (Err fault) before new output output_new held_new
+  pub held-unwritten : (fault : ProgramError) (output_new : Option (List ℕ)) (held_new : List ℕ) → reason_of fault ≡ unwritten → AreHeld input (Err fault) before new output output_new held_new
   held-unwritten fault output_new held_new is =
       let o = append_known output_new held_new in
       let s = serving-untold input left after number before now new output (append_known output_now held) kept answered found o fault some h.serving takes answers
@@ -336,11 +336,11 @@ module _ (input left : Option (List ℕ)) (number : ℕ) (before now : StoreView
     some = held_some;
   }
 
-  pub holding-fails : (fault : Fault) → IsInputFault (reason_of fault) → AreHeld input (Err fault) before now output output_now held
+  pub holding-fails : (fault : ProgramError) → IsInputFault (reason_of fault) → AreHeld input (Err fault) before now output output_now held
   unfolding serving-fails
   holding-fails fault is = record { served = serving-fails input left number before now output (append_known output_now held) fault h.serving is; some = held_some }
 
-  pub holding-exhausts : (fault : Fault) → reason_of fault ≡ refusal Exhausted → number ≡ 18446744073709551615 → AreHeld input (Err fault) before now output output_now held
+  pub holding-exhausts : (fault : ProgramError) → reason_of fault ≡ refusal Exhausted → number ≡ 18446744073709551615 → AreHeld input (Err fault) before now output output_now held
   unfolding serving-exhausts
   holding-exhausts fault is last = record { served = serving-exhausts input left number before now output (append_known output_now held) fault h.serving is last; some = held_some }
 
@@ -355,12 +355,12 @@ told_written unwritten answers output output_now output_after told keeps = tt
 told_written mistake answers output output_now output_after told keeps = absurd told
 told_written (unopened cause) answers output output_now output_after told keeps = absurd told
 
-all_written : (result : Result (Unit {0}) Fault) (answers : List Answered) (output output_now output_after : Option (List ℕ)) → Told result answers output output_now → Keeps output_now output_after
+all_written : (result : Result (Unit {0}) ProgramError) (answers : List Answered) (output output_now output_after : Option (List ℕ)) → Told result answers output output_now → Keeps output_now output_after
     → Told result answers output output_after
 all_written (Ok done) answers output output_now output_after told keeps = Appends-kept _ _ _ _ told keeps
 all_written (Err fault) answers output output_now output_after told keeps = told_written (reason_of fault) answers output output_now output_after told keeps
 
-pub served-written : (input : Option (List ℕ)) (result : Result (Unit {0}) Fault) (before after : StoreView) (output output_now output_after : Option (List ℕ)) (held : List ℕ)
+pub served-written : (input : Option (List ℕ)) (result : Result (Unit {0}) ProgramError) (before after : StoreView) (output output_now output_after : Option (List ℕ)) (held : List ℕ)
     → AreHeld input result before after output output_now held → KeepsHeld output_now held output_after [] → AreServed input result before after output output_after
 served-written input result before after output output_now output_after held h keeps =
     let s = h.served in
@@ -373,7 +373,7 @@ served-written input result before after output output_now output_after held h k
       may = s.may;
     }
 
-first_lines : (result : Result (Unit {0}) Fault) (input : Option (List ℕ)) (lines : List (List ℕ)) → HaveCome result input lines → AreFirst input lines
+first_lines : (result : Result (Unit {0}) ProgramError) (input : Option (List ℕ)) (lines : List (List ℕ)) → HaveCome result input lines → AreFirst input lines
 first_lines (Ok done) input lines come = first_of_all input lines come
 first_lines (Err fault) input lines come = come
 
@@ -381,7 +381,7 @@ first_lines (Err fault) input lines come = come
 unwritten_told : (reason : Reason) (answers : List Answered) (output output_after : Option (List ℕ)) → reason ≡ unwritten → ToldBefore reason answers output output_after
 unwritten_told reason answers output output_after is = subst (λ (r : Reason). ToldBefore r answers output output_after) (sym is) tt
 
-pub served-unwritten : (input : Option (List ℕ)) (result : Result (Unit {0}) Fault) (fault : Fault) (before after : StoreView) (output output_now output_after : Option (List ℕ)) (held : List ℕ)
+pub served-unwritten : (input : Option (List ℕ)) (result : Result (Unit {0}) ProgramError) (fault : ProgramError) (before after : StoreView) (output output_now output_after : Option (List ℕ)) (held : List ℕ)
     → AreHeld input result before after output output_now held → reason_of fault ≡ unwritten → 1 ≤ length held → AreServed input (Err fault) before after output output_after
 served-unwritten input result fault before after output output_now output_after held h is some =
     let s = h.served in
@@ -398,12 +398,12 @@ served-unwritten input result fault before after output output_now output_after 
     by (inl none) = absurd (omega (arith, some, ap length none))
     by (inr one) = one
 
-abbrev is_done : Result (Unit {0}) Fault → Bool
+abbrev is_done : Result (Unit {0}) ProgramError → Bool
 is_done (Ok done) = true
 is_done (Err e) = false
 
 -- it could not be written before
-pub served-unwritten_before : (input : Option (List ℕ)) (result : Result (Unit {0}) Fault) (fault : Fault) (before after : StoreView) (output output_now : Option (List ℕ)) (held : List ℕ)
+pub served-unwritten_before : (input : Option (List ℕ)) (result : Result (Unit {0}) ProgramError) (fault : ProgramError) (before after : StoreView) (output output_now : Option (List ℕ)) (held : List ℕ)
     → result ≡ Err fault → AreHeld input result before after output output_now held → reason_of fault ≡ unwritten → AreServed input result before after output output_now
 served-unwritten_before input (Ok done) fault before after output output_now held failed h is = absurd (true≢false (ap is_done failed))
 served-unwritten_before input (Err other) fault before after output output_now held failed h is =
@@ -433,7 +433,7 @@ held-some [] count is size asked empty = absurd (true≢false (sym (ap (λ (n : 
 held-some (x ∷ xs) count is size asked empty = omega arith
 
 -- where that was tried
-pub unless-written : (r : Result (Unit {0}) Fault) (output output_after : Option (List ℕ)) (held held_after : List ℕ)
+pub unless-written : (r : Result (Unit {0}) ProgramError) (output output_after : Option (List ℕ)) (held held_after : List ℕ)
     → MatchResult r (λ _. KeepsHeld output held output_after [] × (held_after ≡ [])) (λ e. (reason_of e ≡ unwritten) × (1 ≤ length held))
     → MatchResult r (λ _. KeepsHeld output held output_after held_after) (λ e. reason_of e ≡ unwritten)
 unless-written (Ok done) output output_after held held_after (keeps, none) = subst (KeepsHeld output held output_after) (sym none) keeps

@@ -3,7 +3,7 @@ use Rattle.std.specs.Prelude.{◌≡◌, ◌⊎◌, ◌≤◌, ℕ, List, [], �
 use Rattle.std.specs.Io.KnownBytes.{Keeps, append_known}
 use Rattle.lsm_device.specs.declared.refusal.Refusal.{Refusal}
 use Rattle.lsm_device.specs.declared.refusal.Refusal.TheVariants.{NoMemory}
-use Rattle.lsm_language.specs.declared.fault.Fault.{Fault}
+use Rattle.lsm_language.specs.declared.program_error.ProgramError.{ProgramError}
 use Rattle.lsm_store.specs.Backing.{StoreView}
 use Rattle.lsm_serve.specs.Answering.{Answered, AnswersLine, answer_text}
 use Rattle.lsm_serve.specs.Serving.{AreServed}
@@ -13,7 +13,7 @@ abbrev pub KeepsHeld : Option (List ℕ) → List ℕ → Option (List ℕ) → 
 KeepsHeld output held output_after held_after = Keeps (append_known output held) (append_known output_after held_after)
 
 -- Lines of an input were answered, in an output and in what is held for it after that. Nothing is held where no line was answered.
-pub record AreHeld (input : Option (List ℕ)) (result : Result (Unit {0}) Fault) (before after : StoreView) (output output_after : Option (List ℕ)) (held : List ℕ) : Type 0 where
+pub record AreHeld (input : Option (List ℕ)) (result : Result (Unit {0}) ProgramError) (before after : StoreView) (output output_after : Option (List ℕ)) (held : List ℕ) : Type 0 where
   pub served : AreServed input result before after output (append_known output_after held)
   pub some : (held ≡ []) ⊎ (1 ≤ length served.lines)
 

@@ -3,7 +3,7 @@ use Rattle.std.specs.Prelude.{◌≡◌, ◌≢◌, ◌⊎◌, ◌≤◌, ℕ, L
 use Rattle.std.specs.Io.KnownBytes.{Appends}
 use Rattle.lsm_device.specs.declared.refusal.Refusal.{Refusal}
 use Rattle.lsm_device.specs.declared.refusal.Refusal.TheVariants.{Exhausted, NoMemory, Stopped}
-use Rattle.lsm_language.specs.declared.fault.Fault.{Fault}
+use Rattle.lsm_language.specs.declared.program_error.ProgramError.{ProgramError}
 use Rattle.lsm_language.specs.Faults.{Reason, refusal, unread, unwritten, reason_of}
 use Rattle.lsm_store.specs.Backing.{StoreView}
 use Rattle.lsm_machine.specs.Calls.{Reply, Sync, Done, Refused}
@@ -40,11 +40,11 @@ ToldBefore unwritten answers output output_after = Unit {0}
 ToldBefore other answers output output_after = ⊥
 
 -- what was printed of the answers: the text of each, one after another
-abbrev pub Told : Result (Unit {0}) Fault → List Answered → Option (List ℕ) → Option (List ℕ) → Type 0
+abbrev pub Told : Result (Unit {0}) ProgramError → List Answered → Option (List ℕ) → Option (List ℕ) → Type 0
 Told (Ok done) answers output output_after = Appends output output_after (answers_text 1 answers)
 Told (Err fault) answers output output_after = ToldBefore (reason_of fault) answers output output_after
 
-abbrev pub HaveCome : Result (Unit {0}) Fault → Option (List ℕ) → List (List ℕ) → Type 0
+abbrev pub HaveCome : Result (Unit {0}) ProgramError → Option (List ℕ) → List (List ℕ) → Type 0
 HaveCome (Ok done) input lines = AreAll input lines
 HaveCome (Err fault) input lines = AreFirst input lines
 
@@ -62,12 +62,12 @@ EndsEarly unwritten lines = 1 ≤ length lines
 EndsEarly (refusal r) lines = (r ≡ NoMemory) ⊎ ((r ≡ Exhausted) × (length lines ≡ most_lines))
 EndsEarly other lines = ⊥
 
-abbrev pub MayEnd : Result (Unit {0}) Fault → List (List ℕ) → Type 0
+abbrev pub MayEnd : Result (Unit {0}) ProgramError → List (List ℕ) → Type 0
 MayEnd (Ok done) lines = Unit {0}
 MayEnd (Err fault) lines = EndsEarly (reason_of fault) lines
 
 -- The lines of an input were answered one after another, all of them, or the first up to a fault. The answers were printed.
-pub record AreServed (input : Option (List ℕ)) (result : Result (Unit {0}) Fault) (before after : StoreView) (output output_after : Option (List ℕ)) : Type 0 where
+pub record AreServed (input : Option (List ℕ)) (result : Result (Unit {0}) ProgramError) (before after : StoreView) (output output_after : Option (List ℕ)) : Type 0 where
   pub lines : List (List ℕ)
   pub answers : List Answered
   pub serves : AnswersLines before lines answers after
@@ -84,14 +84,14 @@ pub record IsSynced (before after : StoreView) : Type 0 where
   pub synced : (reply ≡ Done) ⊎ (reply ≡ Refused Stopped)
 
 -- that was refused to a store that is not stopped
-pub record IsUnsynced (fault : Fault) (before after : StoreView) : Type 0 where
+pub record IsUnsynced (fault : ProgramError) (before after : StoreView) : Type 0 where
   pub r : Refusal
   pub reason : reason_of fault ≡ refusal r
   pub running : r ≢ Stopped
   pub serves : Serves before Sync (Refused r) after
 
 -- all lines were answered, and all answers printed, but the store was not synced
-pub record EndsUnsynced (input : Option (List ℕ)) (fault : Fault) (lines : List (List ℕ)) (answers : List Answered) (last after : StoreView) (output output_after : Option (List ℕ)) : Type 0 where
+pub record EndsUnsynced (input : Option (List ℕ)) (fault : ProgramError) (lines : List (List ℕ)) (answers : List Answered) (last after : StoreView) (output output_after : Option (List ℕ)) : Type 0 where
   pub all : AreAll input lines
   pub told : Appends output output_after (answers_text 1 answers)
   pub unsynced : IsUnsynced fault last after
@@ -101,12 +101,12 @@ abbrev pub IsAskedToSync : StoreView → StoreView → Type 0
 IsAskedToSync before after = (reply : Reply) × Serves before Sync reply after
 
 -- the store was synced; or it was asked for a sync, since lines are answered no longer; or the sync was refused
-abbrev pub Ends : Result (Unit {0}) Fault → Option (List ℕ) → List (List ℕ) → List Answered → StoreView → StoreView → Option (List ℕ) → Option (List ℕ) → Type 0
+abbrev pub Ends : Result (Unit {0}) ProgramError → Option (List ℕ) → List (List ℕ) → List Answered → StoreView → StoreView → Option (List ℕ) → Option (List ℕ) → Type 0
 Ends (Ok done) input lines answers last after output output_after = IsSynced last after
 Ends (Err fault) input lines answers last after output output_after = (IsAskedToSync last after × EndsEarly (reason_of fault) lines) ⊎ EndsUnsynced input fault lines answers last after output output_after
 
 -- The lines of an input were answered so, and at the end the store was synced.
-pub record IsServed (input : Option (List ℕ)) (result : Result (Unit {0}) Fault) (before after : StoreView) (output output_after : Option (List ℕ)) : Type 0 where
+pub record IsServed (input : Option (List ℕ)) (result : Result (Unit {0}) ProgramError) (before after : StoreView) (output output_after : Option (List ℕ)) : Type 0 where
   pub lines : List (List ℕ)
   pub answers : List Answered
   pub last : StoreView

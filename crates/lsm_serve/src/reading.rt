@@ -4,7 +4,7 @@ ghost use Rattle.std.specs.Prelude.{◌≡◌, ◌≢◌, ◌≤◌, ◌<◌, �
 ghost use Rattle.lsm_language.specs.Faults.{reason_of};
 ghost use Rattle.lsm_serve.specs.Reading.{Takes, TakesLine, IsInputFault, most_kept};
 
-use lsm_language::Fault;
+use lsm_language::ProgramError;
 use memchr::memchr;
 use std::alloc::{AllocError, Global};
 use std::io;
@@ -40,7 +40,7 @@ pub enum Taken {
 pub(crate) fn next_line<I: BufRead>(
     input: &mut I,
     line: &mut Vec<u8>,
-) -> Result<Option<bool>, Fault>
+) -> Result<Option<bool>, ProgramError>
     ensures line { IfOk result
         (λ found. TakesLine (I.remaining input.old) (is_some found) line.new.items
         (I.remaining input.new)) }
@@ -54,22 +54,22 @@ pub(crate) fn next_line<I: BufRead>(
             Taken::Part | Taken::Nothing => {}
         }
     }
-    Err(Fault::Input(ErrorKind::Interrupted.into()))
+    Err(ProgramError::Input(ErrorKind::Interrupted.into()))
 }
 
 // There is no further line. An unfinished one doesn't count: its writer may have been stopped within it.
-fn ended(begun: &[u8]) -> Result<Option<bool>, Fault>
+fn ended(begun: &[u8]) -> Result<Option<bool>, ProgramError>
     ensures none { IfOk result (λ found. (found ≡ None) × (length begun.now ≡ 0)) }
     ensures fails { IfErr result (λ e. IsInputFault (reason_of e)) }
 {
     if begun.is_empty() {
         return Ok(None);
     }
-    Err(Fault::Input(io::Error::new(ErrorKind::UnexpectedEof, CUT)))
+    Err(ProgramError::Input(io::Error::new(ErrorKind::UnexpectedEof, CUT)))
 }
 
 // Takes what was read of a line, and appends it to what is kept of it.
-fn take_piece<I: BufRead>(input: &mut I, line: &mut Vec<u8>) -> Result<Taken, Fault>
+fn take_piece<I: BufRead>(input: &mut I, line: &mut Vec<u8>) -> Result<Taken, ProgramError>
     requires { length line.old.items ≤ most_kept }
     ensures takes { IfOk result
         (λ taken. Takes (I.remaining input.old) line.old.items taken line.new.items
@@ -79,7 +79,7 @@ fn take_piece<I: BufRead>(input: &mut I, line: &mut Vec<u8>) -> Result<Taken, Fa
     let read = match input.fill_buf() {
         Ok(read) => read,
         Err(error) if error.kind() == ErrorKind::Interrupted => return Ok(Taken::Nothing),
-        Err(error) => return Err(Fault::Input(error)),
+        Err(error) => return Err(ProgramError::Input(error)),
     };
     if read.is_empty() {
         return Ok(Taken::End);

@@ -13,7 +13,7 @@ use crate::answering::answer_line;
 use crate::reading::next_line;
 use crate::tagging::part_line;
 use lsm_device::{Device, Refusal};
-use lsm_language::Fault;
+use lsm_language::ProgramError;
 use lsm_store::Store;
 use lsm_upkeep::Upkeep;
 use std::alloc::Global;
@@ -36,7 +36,7 @@ pub fn serve<D: Device, I: BufRead, O: Write>(
     store: &mut Store<D>,
     input: &mut I,
     output: &mut O,
-) -> Result<(), Fault>
+) -> Result<(), ProgramError>
     ensures { IsServed (I.remaining input.old) result store.old store.new (O.contents output.old)
         (O.contents output.new) }
 {
@@ -47,14 +47,14 @@ pub fn serve<D: Device, I: BufRead, O: Write>(
 }
 
 // Syncs a store that is not stopped.
-fn sync<D: Device>(store: &mut Store<D>) -> Result<(), Fault>
+fn sync<D: Device>(store: &mut Store<D>) -> Result<(), ProgramError>
     ensures { MatchResult result (λ _. IsSynced store.old store.new)
         (λ e. IsUnsynced e store.old store.new) }
 {
     match store.sync() {
         Ok(()) => Ok(()),
         Err(Refusal::Stopped) => Ok(()),
-        Err(refusal) => Err(Fault::Refused(refusal)),
+        Err(refusal) => Err(ProgramError::Refused(refusal)),
     }
 }
 
@@ -64,13 +64,13 @@ fn answer_lines<D: Device, I: BufRead, O: Write>(
     store: &mut Store<D>,
     input: &mut I,
     output: &mut O,
-) -> Result<(), Fault>
+) -> Result<(), ProgramError>
     ensures { AreServed (I.remaining input.old) result store.old store.new (O.contents output.old)
         (O.contents output.new) }
 {
     let mut held = Vec::new(alloc);
     let answered = hold_answers(alloc, store, input, &mut held, output);
-    if let Err(Fault::Output(_)) = &answered {
+    if let Err(ProgramError::Output(_)) = &answered {
         return answered;
     }
     write_held(&mut held, output)?;
@@ -84,7 +84,7 @@ fn hold_answers<D: Device, I: BufRead, O: Write>(
     input: &mut I,
     held: &mut Vec<u8>,
     output: &mut O,
-) -> Result<(), Fault>
+) -> Result<(), ProgramError>
     requires { held.old.items ≡ [] }
     ensures { AreHeld (I.remaining input.old) result store.old store.new (O.contents output.old)
         (O.contents output.new) held.new.items }
@@ -98,7 +98,7 @@ fn hold_answers<D: Device, I: BufRead, O: Write>(
         hold_answer(alloc, store, &mut upkeep, number, &line, held)?;
         write_unless(ahead, held, output)?;
     }
-    Err(Fault::Refused(Refusal::Exhausted))
+    Err(ProgramError::Refused(Refusal::Exhausted))
 }
 
 // Answers a line, and holds the answer.
@@ -135,7 +135,11 @@ fn hold(
 }
 
 // Writes what is held, unless another line was read already and it is little.
-fn write_unless<O: Write>(ahead: bool, held: &mut Vec<u8>, output: &mut O) -> Result<(), Fault>
+fn write_unless<O: Write>(
+    ahead: bool,
+    held: &mut Vec<u8>,
+    output: &mut O,
+) -> Result<(), ProgramError>
     ensures { MatchResult result
         (λ _. KeepsHeld (O.contents output.old) held.old.items
         (O.contents output.new) held.new.items) (λ e. reason_of e ≡ unwritten) }
@@ -147,7 +151,7 @@ fn write_unless<O: Write>(ahead: bool, held: &mut Vec<u8>, output: &mut O) -> Re
 }
 
 // Writes what is held, if anything is, and flushes it.
-fn write_held<O: Write>(held: &mut Vec<u8>, output: &mut O) -> Result<(), Fault>
+fn write_held<O: Write>(held: &mut Vec<u8>, output: &mut O) -> Result<(), ProgramError>
     ensures { MatchResult result
         (λ _. KeepsHeld (O.contents output.old) held.old.items (O.contents output.new) []
         × (held.new.items ≡ []))
@@ -161,7 +165,7 @@ fn write_held<O: Write>(held: &mut Vec<u8>, output: &mut O) -> Result<(), Fault>
             held.clear();
             Ok(())
         }
-        Err(error) => Err(Fault::Output(error)),
+        Err(error) => Err(ProgramError::Output(error)),
     }
 }
 

@@ -5,7 +5,7 @@ use Rattle.std.specs.declared.io.Error.{Error}
 use Rattle.lsmctl.specs.declared.answer.Answer.{Answer}
 use Rattle.lsmctl.specs.declared.answer.Output.{Output}
 use Rattle.lsmctl.specs.declared.answer.Output.TheVariants.{Formatted, Batch, Value, Absent, Lines, Halfway, Loaded, Dumped, Served, Found, Explored, Tally}
-use Rattle.lsm_language.specs.declared.fault.Fault.{Fault}
+use Rattle.lsm_language.specs.declared.program_error.ProgramError.{ProgramError}
 use Rattle.lsm_language.specs.Faults.{Reason, mistake, refusal, unopened, unread, unwritten, reason_of, status_of}
 use Rattle.lsmctl.specs.Endings.{TellsLack, answer_status, status_after}
 
@@ -52,7 +52,7 @@ answer_status-silent (Tally true) old new done told = told
 answer_status-silent (Tally false) old new done told = told
 
 -- is never above 2
-pub status_after-at_most : (answered : Result Answer Fault) (written : Result (Unit {0}) Error) → status_after answered written ≤ 2
+pub status_after-at_most : (answered : Result Answer ProgramError) (written : Result (Unit {0}) Error) → status_after answered written ≤ 2
 status_after-at_most answered (Err error) = grind arith
 status_after-at_most (Ok answer) (Ok done) = omega (arith, answer_status-at_most answer.output)
 status_after-at_most (Err fault) (Ok done) = status_of-at_most (reason_of fault)

@@ -3,8 +3,8 @@ use Rattle.std.proofs.Common.{◌≡◌, ◌∙◌, ◌+◌, ℕ, zero, suc, Boo
 use Rattle.std.specs.Prelude.{IfErr, IfOk, IfSome}
 use Rattle.lsm_codec.specs.Map.{Map, Operation, apply}
 use Rattle.lsm_device.specs.declared.refusal.Refusal.{Refusal}
-use Rattle.lsm_language.specs.declared.fault.Fault.{Fault}
-use Rattle.lsm_language.specs.declared.fault.Fault.TheVariants.{Failed, Input as InputFault, Output as OutputFault, Refused, Unopened, Usage}
+use Rattle.lsm_language.specs.declared.program_error.ProgramError.{ProgramError}
+use Rattle.lsm_language.specs.declared.program_error.ProgramError.TheVariants.{Failed, Input as InputFault, Output as OutputFault, Refused, Unopened, Usage}
 use Rattle.lsm_language.specs.Faults.{IsRefusalBy, Reason, mistake, refusal, unopened, unread, unwritten, reason_of}
 use Rattle.lsm_language.specs.Reading.{ReadsLine}
 use Rattle.lsm_language.specs.Rows.{are_rows, lines_of, most_row, row_said, rows_of, with_row}
@@ -175,7 +175,7 @@ reading-ends input left after line loading before now r reads = record { rows = 
         (sym (rest ∙ ap (λ (ls : List (List ℕ)). rows ++ rows_of ls) none ∙ append-nil rows), good ∙ ap are_rows none)
 
 -- a line that is no row
-pub reading-stops : (input left : Option (List ℕ)) (fault : Fault) (loading : Loading) (before now : StoreView) → IsReading input left loading before now
+pub reading-stops : (input left : Option (List ℕ)) (fault : ProgramError) (loading : Loading) (before now : StoreView) → IsReading input left loading before now
     → BeginsNoRow left → reason_of fault ≡ mistake → AreRead input (Err fault) loading before now
 reading-stops input left fault loading before now r none is = record {
   rows = r.rows;
@@ -199,7 +199,7 @@ reading-stops input left fault loading before now r none is = record {
         )
 
 -- no memory, or too many rows
-pub reading-short : (input left : Option (List ℕ)) (fault : Fault) (e : Refusal) (loading : Loading) (before now : StoreView) → IsReading input left loading before now
+pub reading-short : (input left : Option (List ℕ)) (fault : ProgramError) (e : Refusal) (loading : Loading) (before now : StoreView) → IsReading input left loading before now
     → reason_of fault ≡ refusal e → IsShort input e → AreRead input (Err fault) loading before now
 reading-short input left fault e loading before now r is short = record {
   rows = r.rows;
@@ -209,7 +209,7 @@ reading-short input left fault e loading before now r is short = record {
 }
 
 -- an input that can't be read
-pub reading-unreadable : (input left : Option (List ℕ)) (fault : Fault) (loading : Loading) (before now : StoreView) → IsReading input left loading before now
+pub reading-unreadable : (input left : Option (List ℕ)) (fault : ProgramError) (loading : Loading) (before now : StoreView) → IsReading input left loading before now
     → reason_of fault ≡ unread → AreRead input (Err fault) loading before now
 reading-unreadable input left fault loading before now r is = record {
   rows = r.rows;
@@ -219,7 +219,7 @@ reading-unreadable input left fault loading before now r is = record {
 }
 
 -- a row that was not taken
-pub reading-not_taken : (input left : Option (List ℕ)) (fault : Fault) (e : Refusal) (old new : Loading) (before now next : StoreView) → IsReading input left old before now
+pub reading-not_taken : (input left : Option (List ℕ)) (fault : ProgramError) (e : Refusal) (old new : Loading) (before now next : StoreView) → IsReading input left old before now
     → reason_of fault ≡ refusal e → TakesNot old now e new next → AreRead input (Err fault) new before next
 reading-not_taken input left fault e old new before now next r is (inl (short, stays)) =
     reading-short input left fault e new before next (record { rows = r.rows; loads = stays before r.rows r.loads; reads = r.reads }) is (inl short)
@@ -234,7 +234,7 @@ reading-not_taken input left fault e old new before now next r is (inr (same, re
 -- ---- the whole
 
 -- the rows that were read begin those of the input
-ends-begin : (input : Option (List ℕ)) (ended : Result (Unit {0}) Fault) (rows : List Operation) (loading : Loading) (has after : StoreView)
+ends-begin : (input : Option (List ℕ)) (ended : Result (Unit {0}) ProgramError) (rows : List Operation) (loading : Loading) (has after : StoreView)
     → EndsReading ended input rows loading has after → AreFirstRows input rows
 ends-begin input (Ok done) rows loading has after (are, same) = whole-begins input true rows are
 ends-begin input (Err fault) rows loading has after ends = by (reason_of fault) ends
@@ -255,7 +255,7 @@ ends-some None rows put waiting is begins = tt
 ends-some (Some all) rows put waiting is begins = put-some (rows_of (lines_of all)) rows put waiting is begins
 
 -- what is in a store that ended so
-ends-map : (ended : Result (Unit {0}) Fault) (input : Option (List ℕ)) (rows : List Operation) (has after : StoreView) → EndsWith ended input rows has after → map_in after ≡ map_in has
+ends-map : (ended : Result (Unit {0}) ProgramError) (input : Option (List ℕ)) (rows : List Operation) (has after : StoreView) → EndsWith ended input rows has after → map_in after ≡ map_in has
 ends-map (Ok done) input rows has after (are, same) = ap map_in same
 ends-map (Err fault) input rows has after ends = by (reason_of fault) ends
   where
@@ -268,7 +268,7 @@ ends-map (Err fault) input rows has after ends = by (reason_of fault) ends
     by unwritten none = absurd none
 
 -- rows that were put, up to this end
-put : (input : Option (List ℕ)) (ended : Result (Unit {0}) Fault) (loading : Loading) (rows : List Operation) (batches : ℕ) (before has after : StoreView)
+put : (input : Option (List ℕ)) (ended : Result (Unit {0}) ProgramError) (loading : Loading) (rows : List Operation) (batches : ℕ) (before has after : StoreView)
     → PutsRows batches rows before has → loading.loaded ≡ length rows → EndsWith ended input rows has after → ArePut input ended loading before after
 put input ended loading rows batches before has after puts counted ends = record {
   loads = record {
@@ -283,7 +283,7 @@ put input ended loading rows batches before has after puts counted ends = record
 }
 
 -- an end that is no refusal, where those that waited are put
-ends-put : (input : Option (List ℕ)) (ended : Result (Unit {0}) Fault) (rows : List Operation) (loading : Loading) (has after next : StoreView) → is_refused ended ≡ false
+ends-put : (input : Option (List ℕ)) (ended : Result (Unit {0}) ProgramError) (rows : List Operation) (loading : Loading) (has after next : StoreView) → is_refused ended ≡ false
     → EndsReading ended input rows loading has after → EndsWith ended input rows next next
 ends-put input (Ok done) rows loading has after next other (are, same) = (are, refl)
 ends-put input (Err (Usage usage)) rows loading has after next other (are, same) = (are, refl)
@@ -294,7 +294,7 @@ ends-put input (Err (InputFault error)) rows loading has after next other (begin
 ends-put input (Err (OutputFault error)) rows loading has after next other ends = absurd ends
 
 -- the store has not changed after the last of them
-ends-same : (input : Option (List ℕ)) (ended : Result (Unit {0}) Fault) (rows : List Operation) (loading : Loading) (has after : StoreView) → is_refused ended ≡ false
+ends-same : (input : Option (List ℕ)) (ended : Result (Unit {0}) ProgramError) (rows : List Operation) (loading : Loading) (has after : StoreView) → is_refused ended ≡ false
     → EndsReading ended input rows loading has after → after ≡ has
 ends-same input (Ok done) rows loading has after other (are, same) = same
 ends-same input (Err (Usage usage)) rows loading has after other (are, same) = same
@@ -305,13 +305,13 @@ ends-same input (Err (InputFault error)) rows loading has after other (begins, s
 ends-same input (Err (OutputFault error)) rows loading has after other ends = absurd ends
 
 -- how far it is then
-loads-then : (input : Option (List ℕ)) (ended : Result (Unit {0}) Fault) (loading : Loading) (before now : StoreView) → is_refused ended ≡ false
+loads-then : (input : Option (List ℕ)) (ended : Result (Unit {0}) ProgramError) (loading : Loading) (before now : StoreView) → is_refused ended ≡ false
     → (r : AreRead input ended loading before now) → IsLoading before r.rows loading now
 loads-then input ended loading before now other r =
     subst (λ (s : StoreView). IsLoading before r.rows loading s) (sym (ends-same input ended r.rows loading r.has now other r.ends)) r.loads
 
 -- those that were read were put, where the rest of them was committed
-pub put-read : (input : Option (List ℕ)) (ended : Result (Unit {0}) Fault) (loading new : Loading) (before now next : StoreView) → is_refused ended ≡ false
+pub put-read : (input : Option (List ℕ)) (ended : Result (Unit {0}) ProgramError) (loading new : Loading) (before now next : StoreView) → is_refused ended ≡ false
     → AreRead input ended loading before now → CommitsWaiting loading now new next → ArePut input ended new before next
 put-read input ended loading new before now next other r commits =
     let done = commits.1 before r.rows (loads-then input ended loading before now other r) in
@@ -321,7 +321,7 @@ put-read input ended loading new before now next other r commits =
     (done.loaded ∙ ap (λ (rows : List Operation). length rows) all) (ends-put input ended r.rows loading r.has now next other r.ends)
 
 -- and where it was not, some of them
-pub put-refused : (input : Option (List ℕ)) (ended : Result (Unit {0}) Fault) (fault : Fault) (e : Refusal) (loading new : Loading) (before now next : StoreView)
+pub put-refused : (input : Option (List ℕ)) (ended : Result (Unit {0}) ProgramError) (fault : ProgramError) (e : Refusal) (loading new : Loading) (before now next : StoreView)
     → is_refused ended ≡ false → AreRead input ended loading before now → reason_of fault ≡ refusal e → WaitingRefused loading now e new next
     → ArePut input (Err fault) new before next
 put-refused input ended fault e loading new before now next other r is (same, refused) =
@@ -334,7 +334,7 @@ put-refused input ended fault e loading new before now next other r is (same, re
     ))
 
 -- what a reading that was refused has put
-put-from_reading : (input : Option (List ℕ)) (fault : Fault) (e : Refusal) (loading : Loading) (before now : StoreView) → (r : AreRead input (Err fault) loading before now)
+put-from_reading : (input : Option (List ℕ)) (fault : ProgramError) (e : Refusal) (loading : Loading) (before now : StoreView) → (r : AreRead input (Err fault) loading before now)
     → EndsReadingFor (refusal e) input r.rows loading r.has now → (EndsFor (refusal e) input r.loads.put r.has now → EndsWith (Err fault) input r.loads.put r.has now)
     → ArePut input (Err fault) loading before now
 put-from_reading input fault e loading before now r ends is =
@@ -348,7 +348,7 @@ put-from_reading input fault e loading before now r ends is =
     by (inl refused) = inl (rows_waiting loading.batch, subst (AreFirstRows input) r.loads.all ends.0, refused)
     by (inr short) = inr short
 
-pub put-if_refused : (input : Option (List ℕ)) (ended : Result (Unit {0}) Fault) (loading : Loading) (before now : StoreView) → is_refused ended ≡ true
+pub put-if_refused : (input : Option (List ℕ)) (ended : Result (Unit {0}) ProgramError) (loading : Loading) (before now : StoreView) → is_refused ended ≡ true
     → AreRead input ended loading before now → ArePut input ended loading before now
 put-if_refused input (Err (Refused e)) loading before now is r = put-from_reading input (Refused e) e loading before now r r.ends (λ ends. ends)
 put-if_refused input (Err (Failed failure)) loading before now is r = put-from_reading input (Failed failure) failure.refusal loading before now r r.ends (λ ends. ends)
@@ -365,7 +365,7 @@ pub loaded-synced : (input : Option (List ℕ)) (loaded : Loaded) (loading : Loa
 loaded-synced input loaded loading before now after put is serves = record { between = now; loads = put.loads; number = is ∙ put.number; syncs = serves }
 
 -- or it is refused
-pub refuses_synced : (input : Option (List ℕ)) (ended : Result (Unit {0}) Fault) (loading : Loading) (before now after : StoreView) (e : Refusal) → ArePut input ended loading before now
+pub refuses_synced : (input : Option (List ℕ)) (ended : Result (Unit {0}) ProgramError) (loading : Loading) (before now after : StoreView) (e : Refusal) → ArePut input ended loading before now
     → Serves now Sync (RefusedSo e) after → RefusesLastSync input before e
 refuses_synced input ended loading before now after e put serves =
     record { ended = ended; between = now; loads = put.loads; refused = refuses Sync now after e serves }
@@ -396,7 +396,7 @@ pub has_loaded : (input : Option (List ℕ)) (loaded : Loaded) (before after : S
 has_loaded input loaded before after output l is told = record { loaded = loaded; loads = l; whole = is; told = told }
 
 -- or not all of them, up to a fault
-pub tells_loaded : (input lines output output_after : Option (List ℕ)) (loaded : Loaded) (fault : Fault) (told : Reason) (store after : StoreView) → WasOpened store → lines ≡ input
+pub tells_loaded : (input lines output output_after : Option (List ℕ)) (loaded : Loaded) (fault : ProgramError) (told : Reason) (store after : StoreView) → WasOpened store → lines ≡ input
     → KeepsAndLoads lines loaded store after → loaded.ended ≡ Err fault → TellsNumber loaded.rows (reason_of fault) told output output_after
     → TellsLoaded input told output output_after
 tells_loaded input lines output output_after loaded fault told store after opened same l is tells =
@@ -426,7 +426,7 @@ tells_refused input lines output reason e store is opened same refused =
     )
 
 -- what came of a loading, whose store is closed
-pub loaded_answers : (input lines output output_after : Option (List ℕ)) (loaded : Loaded) (store after : StoreView) (result : Result Answer Fault) → WasOpened store → lines ≡ input
+pub loaded_answers : (input lines output output_after : Option (List ℕ)) (loaded : Loaded) (store after : StoreView) (result : Result Answer ProgramError) → WasOpened store → lines ≡ input
     → KeepsAndLoads lines loaded store after
     → IfOk result (λ answer. (loaded.ended ≡ Ok tt) × (answer.output ≡ LoadedRows loaded.rows) × Hands answer.file after.device × (output_after ≡ output))
     → IfOk result (λ answer. OfOpened (HasLoaded input) answer × (output_after ≡ output))
@@ -442,9 +442,9 @@ loaded_answers input lines output output_after loaded store after (Ok answer) op
   kept,
 )
 
-pub loaded_tells : (input lines output output_after : Option (List ℕ)) (loaded : Loaded) (store after : StoreView) (result : Result Answer Fault) → WasOpened store → lines ≡ input
+pub loaded_tells : (input lines output output_after : Option (List ℕ)) (loaded : Loaded) (store after : StoreView) (result : Result Answer ProgramError) → WasOpened store → lines ≡ input
     → KeepsAndLoads lines loaded store after
-    → IfErr result (λ e. (fault : Fault) × (loaded.ended ≡ Err fault) × TellsNumber loaded.rows (reason_of fault) (reason_of e) output output_after)
+    → IfErr result (λ e. (fault : ProgramError) × (loaded.ended ≡ Err fault) × TellsNumber loaded.rows (reason_of fault) (reason_of e) output output_after)
     → IfErr result (λ e. TellsLoaded input (reason_of e) output output_after)
 loaded_tells input lines output output_after loaded store after (Ok answer) opened same l ends = tt
 loaded_tells input lines output output_after loaded store after (Err e) opened same l (fault, is, tells) =

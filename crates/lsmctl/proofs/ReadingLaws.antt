@@ -3,8 +3,8 @@ use Rattle.std.proofs.Common.{◌≡◌, ◌∙◌, ◌+◌, ◌⊎◌, ℕ, Boo
 use Rattle.lsm_codec.specs.Map.{Operation}
 use Rattle.lsm_device.specs.declared.refusal.Refusal.{Refusal}
 use Rattle.lsm_device.specs.declared.refusal.Refusal.TheVariants.{Exhausted, NoMemory}
-use Rattle.lsm_language.specs.declared.fault.Fault.{Fault}
-use Rattle.lsm_language.specs.declared.fault.Fault.TheVariants.{Refused}
+use Rattle.lsm_language.specs.declared.program_error.ProgramError.{ProgramError}
+use Rattle.lsm_language.specs.declared.program_error.ProgramError.TheVariants.{Refused}
 use Rattle.lsm_language.specs.Faults.{mistake, refusal, unread, reason_of}
 use Rattle.lsm_language.specs.Reading.{ReadsLine}
 use Rattle.lsm_language.specs.Rows.{lines_of, most_row, row_said, rows_of}
@@ -22,13 +22,13 @@ reading-counted input left row old new before now next count r takes is =
     more.read ∙ length-append r.rows (row ∷ []) ∙ ap (λ (n : ℕ). n + 1) (sym r.loads.read) ∙ ap (λ (n : ℕ). n + 1) is
 
 -- an input that can't be read, or no memory for a line
-pub reading-unread : (input left : Option (List ℕ)) (fault : Fault) (loading : Loading) (before now : StoreView) → IsReading input left loading before now
+pub reading-unread : (input left : Option (List ℕ)) (fault : ProgramError) (loading : Loading) (before now : StoreView) → IsReading input left loading before now
     → (reason_of fault ≡ refusal NoMemory) ⊎ (reason_of fault ≡ unread) → AreRead input (Err fault) loading before now
 reading-unread input left fault loading before now r (inl is) = reading-short input left fault NoMemory loading before now r is (inl refl)
 reading-unread input left fault loading before now r (inr is) = reading-unreadable input left fault loading before now r is
 
 -- a line that is no row, or no memory for one
-pub reading-no_row : (input left after : Option (List ℕ)) (line : List ℕ) (fault : Fault) (loading : Loading) (before now : StoreView) → IsReading input left loading before now
+pub reading-no_row : (input left after : Option (List ℕ)) (line : List ℕ) (fault : ProgramError) (loading : Loading) (before now : StoreView) → IsReading input left loading before now
     → ReadsLine most_row left true line after → ((reason_of fault ≡ mistake) × (row_said line ≡ None)) ⊎ (reason_of fault ≡ refusal NoMemory) → AreRead input (Err fault) loading before now
 reading-no_row input left after line fault loading before now r reads (inl (is, none)) = reading-stops input left fault loading before now r (no_row_first left after line reads none) is
 reading-no_row input left after line fault loading before now r reads (inr is) = reading-short input left fault NoMemory loading before now r is (inl refl)
@@ -91,7 +91,7 @@ more_when true input left after line seen row old new before now next is r reads
     let is_row = ap row_said (sym same) ∙ said in reading-more input left after line row old new before now next r (row_whole left after line row reads is_row) is_row takes
 more_when false input left after line seen row old new before now next is r reads same said takes = absurd (true≢false (sym is))
 
-pub no_row_when : (more : Bool) (input left after : Option (List ℕ)) (line seen : List ℕ) (fault : Fault) (loading : Loading) (before now : StoreView) → more ≡ true → IsReading input left loading before now
+pub no_row_when : (more : Bool) (input left after : Option (List ℕ)) (line seen : List ℕ) (fault : ProgramError) (loading : Loading) (before now : StoreView) → more ≡ true → IsReading input left loading before now
     → ReadsLine most_row left more line after → seen ≡ line → ((reason_of fault ≡ mistake) × (row_said seen ≡ None)) ⊎ (reason_of fault ≡ refusal NoMemory) → AreRead input (Err fault) loading before now
 no_row_when true input left after line seen fault loading before now is r reads same why =
     reading-no_row input left after line fault loading before now r reads (subst (λ (l : List ℕ). ((reason_of fault ≡ mistake) × (row_said l ≡ None)) ⊎ (reason_of fault ≡ refusal NoMemory)) same why)

@@ -13,7 +13,7 @@ use Rattle.lsm_machine.specs.State.{State}
 use Rattle.lsm_store.specs.Stats.{stat_answer, stat_of}
 use Rattle.lsm_upkeep.specs.Writing.{Writes}
 use Rattle.lsm_check.specs.Images.{IsCheckRefusal}
-use Rattle.lsm_language.specs.declared.fault.Fault.{Fault}
+use Rattle.lsm_language.specs.declared.program_error.ProgramError.{ProgramError}
 use Rattle.lsm_language.specs.Faults.{IsRefusalBy, Reason, mistake, refusal, unopened, unread, unwritten, reason_of}
 use Rattle.lsmctl.specs.declared.answer.Answer.{Answer}
 use Rattle.lsmctl.specs.declared.answer.Output.{Output}
@@ -70,7 +70,7 @@ numbers_refused store e opened (inr is) = absurd (numbers_unrefused store e open
 -- ---- what comes of calls on a store that was opened
 
 -- they were answered
-pub closed_answers : (Tells : StoreView → StoreView → Output → Type 0) (store after : StoreView) (done : Result Output Refusal) (result : Result Answer Fault) → WasOpened store
+pub closed_answers : (Tells : StoreView → StoreView → Output → Type 0) (store after : StoreView) (done : Result Output Refusal) (result : Result Answer ProgramError) → WasOpened store
     → IfOk done (Tells store after) → IfOk result (λ answer. (done ≡ Ok answer.output) × Hands answer.file after.device) → IfOk result (OfOpened Tells)
 closed_answers Tells store after done (Err fault) opened tells closed = tt
 closed_answers Tells store after done (Ok answer) opened tells (is, hands) = record {
@@ -82,7 +82,7 @@ closed_answers Tells store after done (Ok answer) opened tells (is, hands) = rec
 }
 
 -- or refused
-pub closed_refuses : (RefusesSo : Refusal → Type 0) (done : Result Output Refusal) (result : Result Answer Fault) → IfErr done RefusesSo
+pub closed_refuses : (RefusesSo : Refusal → Type 0) (done : Result Output Refusal) (result : Result Answer ProgramError) → IfErr done RefusesSo
     → IfErr result (λ e. (reason : Refusal) × (done ≡ Err reason) × (reason_of e ≡ refusal reason)) → IfErr result (λ e. IsRefusalBy RefusesSo (reason_of e))
 closed_refuses RefusesSo done (Ok answer) refuses closed = tt
 closed_refuses RefusesSo done (Err fault) refuses (reason, is, told) =
@@ -93,7 +93,7 @@ opened_when : (RefusesSo : StoreView → Refusal → Type 0) (store : StoreView)
 opened_when RefusesSo store (Ok output) opened refuses = tt
 opened_when RefusesSo store (Err e) opened refuses = opened_refused RefusesSo store e opened refuses
 
-pub opened_refuses : (RefusesSo : StoreView → Refusal → Type 0) (store : StoreView) (done : Result Output Refusal) (result : Result Answer Fault) → WasOpened store
+pub opened_refuses : (RefusesSo : StoreView → Refusal → Type 0) (store : StoreView) (done : Result Output Refusal) (result : Result Answer ProgramError) → WasOpened store
     → IfErr done (RefusesSo store) → IfErr result (λ e. (reason : Refusal) × (done ≡ Err reason) × (reason_of e ≡ refusal reason))
     → IfErr result (λ e. IsRefusalBy (IsRefusedOpened RefusesSo) (reason_of e))
 opened_refuses RefusesSo store done result opened refuses closed =

@@ -14,7 +14,7 @@ use Rattle.lsm_language.specs.declared.subcommand.Subcommand.{Subcommand}
 use Rattle.lsm_language.specs.declared.subcommand.Subcommand.TheVariants as subcommand
 use Rattle.lsm_language.specs.declared.request.Request.{Request}
 use Rattle.lsm_language.specs.declared.request.Request.TheVariants as request
-use Rattle.lsm_language.specs.declared.fault.Fault.{Fault}
+use Rattle.lsm_language.specs.declared.program_error.ProgramError.{ProgramError}
 use Rattle.lsm_language.specs.Faults.{Reason, mistake, refusal, unopened, unread, unwritten, reason_of, status_of}
 use Rattle.lsmctl.specs.Program.{has_words, program}
 use Rattle.lsm_language.specs.Requests.{Says, reason_for, wants_script}
@@ -103,7 +103,7 @@ module _ (asked : Subcommand) (text : List ℕ) (before after output output_afte
   faults_of other reason says faults = faults
 
 -- what comes of a request
-pub answered_so : (words : List Text) (input left output output_after : Option (List ℕ)) (asked : Subcommand) (text : List ℕ) (request : Request) (result : Result Answer Fault)
+pub answered_so : (words : List Text) (input left output output_after : Option (List ℕ)) (asked : Subcommand) (text : List ℕ) (request : Request) (result : Result Answer ProgramError)
     → IsRead words input asked text → reason_for asked text ≡ None → Says asked text request → (wants_script asked ≡ false → left ≡ input)
     → IfOk result (Comes request left output output_after) → IfErr result (λ e. FaultsWith request left (reason_of e) output output_after)
     → MatchResult result (IsServed words input output output_after) (λ fault. Fails words input (reason_of fault) output output_after)
@@ -221,7 +221,7 @@ module _ (words : List Text) (input : Option (List ℕ)) (bytes : Written) (ends
   pub done-of_run : IsRun words input bytes ends → ends ≡ 0 → HasServed words input bytes.output bytes.output_after × Keeps bytes.errors bytes.errors_after
   done-of_run run zero = by_cases run.answered run.concludes.written (sym run.concludes.status ∙ zero) run.comes run.concludes.answer run.concludes.fault
     where
-      by_cases : (answered : Result Answer Fault) (written : Result (Unit {0}) Error) → status_after answered written ≡ 0
+      by_cases : (answered : Result Answer ProgramError) (written : Result (Unit {0}) Error) → status_after answered written ≡ 0
           → MatchResult answered (IsServed words input bytes.output run.between) (λ fault. Fails words input (reason_of fault) bytes.output run.between)
           → PrintsAnswer answered written run.between bytes.output_after → PrintsFault answered written bytes.errors bytes.errors_after
           → HasServed words input bytes.output bytes.output_after × Keeps bytes.errors bytes.errors_after
@@ -237,7 +237,7 @@ module _ (words : List Text) (input : Option (List ℕ)) (bytes : Written) (ends
   pub mistake-of_run : IsRun words input bytes ends → ends ≡ 2 → FindsMistake words input bytes.output bytes.output_after
   mistake-of_run run two = by_cases run.answered run.concludes.written (sym run.concludes.status ∙ two) run.comes run.concludes.answer
     where
-      by_cases : (answered : Result Answer Fault) (written : Result (Unit {0}) Error) → status_after answered written ≡ 2
+      by_cases : (answered : Result Answer ProgramError) (written : Result (Unit {0}) Error) → status_after answered written ≡ 2
           → MatchResult answered (IsServed words input bytes.output run.between) (λ fault. Fails words input (reason_of fault) bytes.output run.between)
           → PrintsAnswer answered written run.between bytes.output_after → FindsMistake words input bytes.output bytes.output_after
       by_cases (Ok answer) (Ok done) e served printed = absurd (omega (arith, e, answer_status-at_most answer.output))

@@ -3,7 +3,7 @@ use Rattle.std.proofs.Common.{◌≡◌, ℕ, true, false, List, Option, Result,
 use Rattle.std.specs.Prelude.{IfErr, IfOk, is_some}
 use Rattle.lsm_device.specs.declared.refusal.Refusal.{Refusal}
 use Rattle.lsm_device.specs.declared.refusal.Refusal.TheVariants.{NoMemory, Stopped}
-use Rattle.lsm_language.specs.declared.fault.Fault.{Fault}
+use Rattle.lsm_language.specs.declared.program_error.ProgramError.{ProgramError}
 use Rattle.lsm_language.specs.Faults.{IsRefusalBy, Reason, refusal, reason_of}
 use Rattle.lsm_open.specs.Recovering.{IsOpeningRefusal}
 use Rattle.lsm_serve.specs.Serving.{IsServed}
@@ -22,7 +22,7 @@ pub no_reader : (e : Refusal) (reason : Reason) (input output : Option (List ℕ
 no_reader e reason input output none is = inl (told_as IsOpeningRefusal e reason is (memory_opening e none), refl)
 
 -- lines were answered up to a fault
-pub served_to : (store after : StoreView) (fault : Fault) (reason : Reason) (input lines output output_after : Option (List ℕ)) → WasOpened store → lines ≡ input
+pub served_to : (store after : StoreView) (fault : ProgramError) (reason : Reason) (input lines output output_after : Option (List ℕ)) → WasOpened store → lines ≡ input
     → IsServed lines (Err fault) store after output output_after → reason ≡ reason_of fault → TellsServed input reason output output_after
 served_to store after fault reason input lines output output_after opened same s is = inr (inl record {
   store = store;
@@ -34,7 +34,7 @@ served_to store after fault reason input lines output output_after opened same s
 })
 
 -- or all of them, and the store was synced
-pub served_answers : (store after : StoreView) (input lines output output_after : Option (List ℕ)) (result : Result Answer Fault) → WasOpened store → lines ≡ input
+pub served_answers : (store after : StoreView) (input lines output output_after : Option (List ℕ)) (result : Result Answer ProgramError) → WasOpened store → lines ≡ input
     → IsServed lines (Ok tt) store after output output_after
     → IfOk result (λ answer. (answer.output ≡ Served) × Hands answer.file after.device × (is_some after.state.stopped ≡ false))
     → IfOk result (OfOpened (HasServed input output output_after))
@@ -52,7 +52,7 @@ served_answers store after input lines output output_after (Ok answer) opened sa
 }
 
 -- or it was stopped meanwhile
-pub served_refuses : (store after : StoreView) (input lines output output_after : Option (List ℕ)) (result : Result Answer Fault) → WasOpened store → lines ≡ input
+pub served_refuses : (store after : StoreView) (input lines output output_after : Option (List ℕ)) (result : Result Answer ProgramError) → WasOpened store → lines ≡ input
     → IsServed lines (Ok tt) store after output output_after → IfErr result (λ e. (reason_of e ≡ refusal Stopped) × (is_some after.state.stopped ≡ true))
     → IfErr result (λ e. TellsServed input (reason_of e) output output_after)
 served_refuses store after input lines output output_after (Ok answer) opened same s ends = tt

@@ -2,7 +2,7 @@
 use Rattle.std.specs.Prelude.{◌≡◌, ◌⊎◌, ℕ, ◌+◌, ◌*◌, ◌==◌, Bool, List, [], ◌∷◌, ◌++◌, map, Option, Some, None, is_some, Result, Ok, Err, IfOk, IsTrue, false, true, codes, decimal, string_bytes}
 use Rattle.std.specs.Io.KnownBytes.{Appends}
 use Rattle.lsm_language.specs.Faults.{IsRefusalBy, Reason, refusal, unopened, unwritten, reason_of}
-use Rattle.lsm_language.specs.declared.fault.Fault.{Fault}
+use Rattle.lsm_language.specs.declared.program_error.ProgramError.{ProgramError}
 use Rattle.lsm_codec.specs.Keys.{Bytes}
 use Rattle.lsm_codec.specs.Words.{word_of}
 use Rattle.lsm_codec.specs.Geometry.{data_blocks_of}
@@ -301,7 +301,7 @@ pub record LoadsTo (input output output_after : Option (List ℕ)) (reason : Rea
   pub store : StoreView
   pub after : StoreView
   pub loaded : LoadedUpTo
-  pub fault : Fault
+  pub fault : ProgramError
   pub opened : WasOpened store
   pub loads : KeepsAndLoads input loaded store after
   pub ends : loaded.ended ≡ Err fault
@@ -316,7 +316,7 @@ TellsLoaded input reason output output_after = (IsRefusalBy (IsRefusedOpened (Re
 pub record ServesTo (input output output_after : Option (List ℕ)) (reason : Reason) : Type 0 where
   pub store : StoreView
   pub after : StoreView
-  pub fault : Fault
+  pub fault : ProgramError
   pub opened : WasOpened store
   pub serves : IsServed input (Err fault) store after output output_after
   pub same : reason_of fault ≡ reason

@@ -5,8 +5,8 @@ use Rattle.std.specs.declared.io.Error.{Error}
 use Rattle.lsmctl.specs.declared.answer.Answer.{Answer}
 use Rattle.lsmctl.specs.declared.answer.Output.{Output}
 use Rattle.lsmctl.specs.declared.answer.Output.TheVariants.{Halfway, Found, Explored, Tally}
-use Rattle.lsm_language.specs.declared.fault.Fault.{Fault}
-use Rattle.lsm_language.specs.declared.fault.Fault.TheVariants.{Refused, Failed, Unopened}
+use Rattle.lsm_language.specs.declared.program_error.ProgramError.{ProgramError}
+use Rattle.lsm_language.specs.declared.program_error.ProgramError.TheVariants.{Refused, Failed, Unopened}
 use Rattle.lsm_language.specs.Faults.{failed_lines, refusal_line, unopened_lines, reason_of, status_of}
 use Rattle.lsm_upkeep.specs.Lacking.{lack_text}
 use Rattle.lsm_upkeep.specs.declared.lacking.Lack.{Lack}
@@ -23,19 +23,19 @@ answer_status (Tally false) = 1
 answer_status other = 0
 
 -- the exit status: 1 where the answer or the fault could not be written
-abbrev pub status_after : Result Answer Fault → Result (Unit {0}) Error → ℕ
+abbrev pub status_after : Result Answer ProgramError → Result (Unit {0}) Error → ℕ
 status_after answered (Err error) = 1
 status_after (Ok answer) (Ok done) = answer_status answer.output
 status_after (Err fault) (Ok done) = status_of (reason_of fault)
 
 -- the output is the answer, or stays as it is
-abbrev pub PrintsAnswer : Result Answer Fault → Result (Unit {0}) Error → Option (List ℕ) → Option (List ℕ) → Type 0
+abbrev pub PrintsAnswer : Result Answer ProgramError → Result (Unit {0}) Error → Option (List ℕ) → Option (List ℕ) → Type 0
 PrintsAnswer (Ok answer) written old new = OnOk written (Appends old new (lines_of answer))
 PrintsAnswer (Err fault) written old new = Keeps old new
 
 -- a refusal is reported in one line, and a call of a file that failed, or a file that can't be opened, in two; the text of any
 -- other fault is left open
-abbrev pub IsReported : Fault → Option (List ℕ) → Option (List ℕ) → Type 0
+abbrev pub IsReported : ProgramError → Option (List ℕ) → Option (List ℕ) → Type 0
 IsReported (Refused r) old new = Appends old new (refusal_line r)
 IsReported (Failed failure) old new = Appends old new (failed_lines failure)
 IsReported (Unopened cause) old new = Appends old new (unopened_lines cause)
@@ -63,7 +63,7 @@ TellsLack (Halfway text lack) old new = Appends old new (lack_line lack)
 TellsLack other old new = Keeps old new
 
 -- the errors are the fault, or what a store lacks, or stay as they are; that an answer could not be written is told as far as it can be
-abbrev pub PrintsFault : Result Answer Fault → Result (Unit {0}) Error → Option (List ℕ) → Option (List ℕ) → Type 0
+abbrev pub PrintsFault : Result Answer ProgramError → Result (Unit {0}) Error → Option (List ℕ) → Option (List ℕ) → Type 0
 PrintsFault (Ok answer) written old new = OnOk written (TellsLack answer.output old new)
 PrintsFault (Err fault) written old new = OnOk written (IsReported fault old new)
 
@@ -75,7 +75,7 @@ pub record Written : Type 0 where
   pub errors_after : Option (List ℕ)
 
 -- an answer or a fault was printed, and this is the exit status
-pub record Concludes (answered : Result Answer Fault) (bytes : Written) (ends : ℕ) : Type 0 where
+pub record Concludes (answered : Result Answer ProgramError) (bytes : Written) (ends : ℕ) : Type 0 where
   pub written : Result (Unit {0}) Error
   pub status : ends ≡ status_after answered written
   pub answer : PrintsAnswer answered written bytes.output bytes.output_after

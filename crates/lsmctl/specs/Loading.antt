@@ -6,8 +6,8 @@ use Rattle.lsm_device.specs.declared.refusal.Refusal.TheVariants.{Exhausted, NoM
 use Rattle.lsm_store.specs.Backing.{StoreView}
 use Rattle.lsm_machine.specs.Calls.{Done, Sync}
 use Rattle.lsm_store.specs.Serving.{Serves}
-use Rattle.lsm_language.specs.declared.fault.Fault.{Fault}
-use Rattle.lsm_language.specs.declared.fault.Fault.TheVariants as fault
+use Rattle.lsm_language.specs.declared.program_error.ProgramError.{ProgramError}
+use Rattle.lsm_language.specs.declared.program_error.ProgramError.TheVariants as fault
 use Rattle.lsm_language.specs.Faults.{Reason, mistake, refusal, unread, reason_of}
 use Rattle.lsm_language.specs.Rows.{are_rows, lines_of, rows_of}
 use Rattle.lsmctl.specs.Commits.{Adds, AddsNot, IsKeptUp, Refuses, map_in}
@@ -60,12 +60,12 @@ EndsFor unread input rows has after = AreFirstRows input rows × (after ≡ has)
 EndsFor other input rows has after = ⊥
 
 -- or all of them are
-abbrev pub EndsWith : Result (Unit {0}) Fault → Option (List ℕ) → List Operation → StoreView → StoreView → Type 0
+abbrev pub EndsWith : Result (Unit {0}) ProgramError → Option (List ℕ) → List Operation → StoreView → StoreView → Type 0
 EndsWith (Ok done) input rows has after = AreRowsOf input true rows × (after ≡ has)
 EndsWith (Err fault) input rows has after = EndsFor (reason_of fault) input rows has after
 
 -- The first rows of an input were put into a store, in their order, up to this end.
-pub record LoadsRows (input : Option (List ℕ)) (ended : Result (Unit {0}) Fault) (before after : StoreView) : Type 0 where
+pub record LoadsRows (input : Option (List ℕ)) (ended : Result (Unit {0}) ProgramError) (before after : StoreView) : Type 0 where
   pub rows : List Operation
   pub batches : ℕ
   pub has : StoreView
@@ -82,7 +82,7 @@ pub record IsLoaded (input : Option (List ℕ)) (loaded : Loaded) (before after 
 
 -- They were, and the sync after the last of them failed so.
 pub record RefusesLastSync (input : Option (List ℕ)) (before : StoreView) (e : Refusal) : Type 0 where
-  pub ended : Result (Unit {0}) Fault
+  pub ended : Result (Unit {0}) ProgramError
   pub between : StoreView
   pub loads : LoadsRows input ended before between
   pub refused : Refuses Sync between e
@@ -176,7 +176,7 @@ abbrev pub CommitsWaiting : Loading → StoreView → Loading → StoreView → 
 CommitsWaiting old before new after = (new ≡ none_waits old) × StaysLoaded old before new after
 
 -- an end by a refusal
-abbrev pub is_refused : Result (Unit {0}) Fault → Bool
+abbrev pub is_refused : Result (Unit {0}) ProgramError → Bool
 is_refused (Err (fault.Refused e)) = true
 is_refused (Err (fault.Failed failure)) = true
 is_refused other = false
@@ -191,18 +191,18 @@ EndsReadingFor (refusal e) input rows loading has after = AreFirstRows input row
 EndsReadingFor unread input rows loading has after = AreFirstRows input rows × (after ≡ has)
 EndsReadingFor other input rows loading has after = ⊥
 
-abbrev pub EndsReading : Result (Unit {0}) Fault → Option (List ℕ) → List Operation → Loading → StoreView → StoreView → Type 0
+abbrev pub EndsReading : Result (Unit {0}) ProgramError → Option (List ℕ) → List Operation → Loading → StoreView → StoreView → Type 0
 EndsReading (Ok done) input rows loading has after = AreRowsOf input true rows × (after ≡ has)
 EndsReading (Err fault) input rows loading has after = EndsReadingFor (reason_of fault) input rows loading has after
 
 -- rows were read, and all but those that wait were put
-pub record AreRead (input : Option (List ℕ)) (ended : Result (Unit {0}) Fault) (loading : Loading) (before after : StoreView) : Type 0 where
+pub record AreRead (input : Option (List ℕ)) (ended : Result (Unit {0}) ProgramError) (loading : Loading) (before after : StoreView) : Type 0 where
   pub rows : List Operation
   pub has : StoreView
   pub loads : IsLoading before rows loading has
   pub ends : EndsReading ended input rows loading has after
 
 -- rows were put, and counted
-pub record ArePut (input : Option (List ℕ)) (ended : Result (Unit {0}) Fault) (loading : Loading) (before after : StoreView) : Type 0 where
+pub record ArePut (input : Option (List ℕ)) (ended : Result (Unit {0}) ProgramError) (loading : Loading) (before after : StoreView) : Type 0 where
   pub loads : LoadsRows input ended before after
   pub number : loading.loaded ≡ length loads.rows

@@ -9,7 +9,7 @@ use Rattle.lsm_language.specs.declared.subcommand.Subcommand.{Subcommand}
 use Rattle.lsm_language.specs.declared.request.Request.{Request}
 use Rattle.lsm_language.specs.declared.request.Request.TheVariants as request
 use Rattle.lsmctl.specs.declared.answer.Answer.{Answer}
-use Rattle.lsm_language.specs.declared.fault.Fault.{Fault}
+use Rattle.lsm_language.specs.declared.program_error.ProgramError.{ProgramError}
 use Rattle.lsm_language.specs.Faults.{Reason, mistake, refusal, unread, reason_of}
 use Rattle.lsm_language.specs.Scripts.{read_within}
 use Rattle.lsm_language.specs.Words.{after}
@@ -110,7 +110,7 @@ FindsMistake words input output output_after = ((AskNothing words ⊎ IsWrong wo
 
 -- a run of the program: what comes of the words and the input is printed, and this is the exit status
 pub record IsRun (words : List Text) (input : Option (List ℕ)) (bytes : Written) (ends : ℕ) : Type 0 where
-  pub answered : Result Answer Fault
+  pub answered : Result Answer ProgramError
   pub between : Option (List ℕ)
   pub comes : MatchResult answered (IsServed words input bytes.output between)
       (λ fault. Fails words input (reason_of fault) bytes.output between)
@@ -118,7 +118,7 @@ pub record IsRun (words : List Text) (input : Option (List ℕ)) (bytes : Writte
 
 -- no words could be taken: one is no text, or memory was refused; just that is told
 pub record IsWordless (bytes : Written) (ends : ℕ) : Type 0 where
-  pub fault : Fault
+  pub fault : ProgramError
   pub cause : (reason_of fault ≡ mistake) ⊎ (reason_of fault ≡ refusal NoMemory)
   pub concludes : Concludes (Err fault) bytes ends
 

@@ -4,7 +4,7 @@ ghost use Rattle.std.specs.Prelude.{◌≡◌, ◌⊎◌, [], ◌+◌, true, fal
 ghost use Rattle.lsm_check.specs.Images.{IsCheckRefusal};
 ghost use Rattle.lsm_device.specs.declared.refusal.Refusal.TheVariants.{NoMemory, Io, Stopped};
 ghost use Rattle.lsm_device.specs.declared.refusal.Refusal.{Refusal};
-ghost use Rattle.lsm_language.specs.declared.fault.Fault.{Fault};
+ghost use Rattle.lsm_language.specs.declared.program_error.ProgramError.{ProgramError};
 ghost use Rattle.lsmctl.specs.declared.answer.Output.TheVariants.{Loaded as LoadedRows, Served};
 ghost use Rattle.lsm_open.specs.Recovering.{IsOpeningRefusal};
 ghost use Rattle.lsm_store.specs.Backing.{machine_of};
@@ -35,7 +35,7 @@ use crate::{committing, runs};
 use lsm_check::Finding;
 use lsm_codec::{Batch, Guard, word};
 use lsm_device::{Device, FileDevice, Refusal};
-use lsm_language::{Fault, Geometry, Line, Load, Request, buffered, stat_text};
+use lsm_language::{Geometry, Line, Load, ProgramError, Request, buffered, stat_text};
 use lsm_progress::Progress;
 use lsm_store::{At, Store};
 use lsm_upkeep::{compact_all_showing, lack_of};
@@ -58,7 +58,7 @@ pub fn answer_request<
     input: &mut I,
     output: &mut O,
     progress: &mut P,
-) -> Result<Answer, Fault>
+) -> Result<Answer, ProgramError>
     ensures comes { IfOk result
         (Comes request.entry (I.remaining input.old) (O.contents output.old)
         (O.contents output.new)) }
@@ -97,7 +97,7 @@ fn compact<R: Files<File = File> + AllocGlobal, P: Progress>(
     rt: &R,
     file: &str,
     progress: &mut P,
-) -> Result<Answer, Fault>
+) -> Result<Answer, ProgramError>
     ensures gives { IfOk result (OfOpened HasCompacted) }
     ensures refused { IfErr result
         (λ e. IsRefusalBy (IsRefusedOpened RefusesToCompact) (reason_of e)) }
@@ -112,7 +112,7 @@ fn closed(
     alloc: Global,
     store: Store<FileDevice>,
     done: Result<Output, Refusal>,
-) -> Result<Answer, Fault>
+) -> Result<Answer, ProgramError>
     ensures answer { IfOk result
         (λ answer. (done ≡ Ok answer.output) × Hands answer.file store.device) }
     ensures refused { IfErr result
@@ -147,7 +147,7 @@ fn dump<R: Files<File = File> + AllocGlobal, O: Write>(
     rt: &R,
     file: &str,
     output: &mut O,
-) -> Result<Answer, Fault>
+) -> Result<Answer, ProgramError>
     ensures answer { IfOk result (OfDumped (O.contents output.old) (O.contents output.new)) }
     ensures fault { IfErr result
         (λ e. TellsDumped (reason_of e) (O.contents output.old) (O.contents output.new)) }
@@ -165,7 +165,7 @@ fn load<R: Files<File = File> + AllocGlobal, I: Read, O: Write, P: Progress>(
     input: &mut I,
     output: &mut O,
     progress: &mut P,
-) -> Result<Answer, Fault>
+) -> Result<Answer, ProgramError>
     ensures answer { IfOk result
         (λ answer. OfOpened (HasLoaded (I.remaining input.old)) answer
         × (O.contents output.new ≡ O.contents output.old)) }
@@ -187,12 +187,12 @@ fn loaded_so<O: Write>(
     store: Store<FileDevice>,
     loaded: Loaded,
     output: &mut O,
-) -> Result<Answer, Fault>
+) -> Result<Answer, ProgramError>
     ensures answer { IfOk result
         (λ answer. (loaded.ended ≡ Ok tt) × (answer.output ≡ LoadedRows loaded.rows)
         × Hands answer.file store.device
         × (O.contents output.new ≡ O.contents output.old)) }
-    ensures fault { IfErr result (λ e. (fault : Fault) × (loaded.ended ≡ Err fault)
+    ensures fault { IfErr result (λ e. (fault : ProgramError) × (loaded.ended ≡ Err fault)
         × TellsNumber loaded.rows (reason_of fault) (reason_of e) (O.contents output.old)
         (O.contents output.new)) }
 {
@@ -212,7 +212,7 @@ fn serve<R: Files<File = File> + AllocGlobal, I: Read, O: Write>(
     file: &str,
     input: &mut I,
     output: &mut O,
-) -> Result<Answer, Fault>
+) -> Result<Answer, ProgramError>
     ensures answer { IfOk result
         (OfOpened (HasServed (I.remaining input.old) (O.contents output.old)
         (O.contents output.new))) }
@@ -229,7 +229,7 @@ fn serve<R: Files<File = File> + AllocGlobal, I: Read, O: Write>(
 }
 
 // The answer to whoever had all lines answered, if the store wasn't stopped meanwhile.
-fn served(alloc: Global, store: Store<FileDevice>) -> Result<Answer, Fault>
+fn served(alloc: Global, store: Store<FileDevice>) -> Result<Answer, ProgramError>
     ensures answer { IfOk result
         (λ answer. (answer.output ≡ Served) × Hands answer.file store.device
         × (is_some store.state.stopped ≡ false)) }
@@ -258,13 +258,13 @@ fn keep_and_load<D: Device, I: BufRead, P: Progress>(
 }
 
 // Prints how many rows were loaded before the fault.
-fn told_first<O: Write>(rows: u64, fault: Fault, output: &mut O) -> Fault
+fn told_first<O: Write>(rows: u64, fault: ProgramError, output: &mut O) -> ProgramError
     ensures { TellsNumber rows (reason_of fault) (reason_of result) (O.contents output.old)
         (O.contents output.new) }
 {
     match writeln!(output, "loaded {rows}") {
         Ok(()) => fault,
-        Err(error) => Fault::Output(error),
+        Err(error) => ProgramError::Output(error),
     }
 }
 
@@ -272,7 +272,7 @@ fn format<R: Files<File = File> + AllocGlobal>(
     rt: &R,
     file: &str,
     geometry: Geometry,
-) -> Result<Answer, Fault>
+) -> Result<Answer, ProgramError>
     ensures gives { IfOk result (HasFormatted geometry.sectors geometry.log_sectors) }
     ensures refused { IfErr result
         (λ e. IsRefusalBy (λ r. (r ≡ NoMemory) ⊎ (r ≡ Io)) (reason_of e)) }
@@ -300,7 +300,7 @@ fn commit<R: Files<File = File> + AllocGlobal>(
     file: &str,
     guards: Option<&[Guard]>,
     batch: &Batch,
-) -> Result<Answer, Fault>
+) -> Result<Answer, ProgramError>
     ensures gives { IfOk result
         (OfOpened (HasCommitted (option_map (λ g. g.now) guards.entry) batch.now)) }
     ensures refused { IfErr result
@@ -313,7 +313,11 @@ fn commit<R: Files<File = File> + AllocGlobal>(
     closed(rt.alloc(), store, done)
 }
 
-fn get<R: Files<File = File> + AllocGlobal>(rt: &R, file: &str, key: &[u8]) -> Result<Answer, Fault>
+fn get<R: Files<File = File> + AllocGlobal>(
+    rt: &R,
+    file: &str,
+    key: &[u8],
+) -> Result<Answer, ProgramError>
     ensures gives { IfOk result (OfOpened (HasFound key.now)) }
     ensures refused { IfErr result
         (λ e. IsRefusalBy (IsRefusedOpened (RefusesToTell (Get Now key.now))) (reason_of e)) }
@@ -338,7 +342,7 @@ fn replay<R: Files<File = File> + AllocGlobal + Threads + Sync>(
     rt: &R,
     file: &str,
     script: Vec<Line>,
-) -> Result<Answer, Fault>
+) -> Result<Answer, ProgramError>
     ensures gives { IfOk result
         (OfOpened (HasReplies (map asked_of (steps_after [] script.items))
         (told_after [] script.items))) }
@@ -355,7 +359,7 @@ fn scan<R: Files<File = File> + AllocGlobal>(
     file: &str,
     from: &[u8],
     limit: u64,
-) -> Result<Answer, Fault>
+) -> Result<Answer, ProgramError>
     ensures gives { IfOk result (OfOpened (HasRows from.now limit)) }
     ensures refused { IfErr result
         (λ e. IsRefusalBy (IsRefusedOpened (RefusesToTell (Scan Now from.now None limit)))
@@ -401,7 +405,7 @@ fn numbers_line<D: Device>(alloc: Global, store: &Store<D>) -> Result<String, Re
     Ok(stat_text(alloc, &stat)?)
 }
 
-fn stat<R: Files<File = File> + AllocGlobal>(rt: &R, file: &str) -> Result<Answer, Fault>
+fn stat<R: Files<File = File> + AllocGlobal>(rt: &R, file: &str) -> Result<Answer, ProgramError>
     ensures gives { IfOk result (OfOpened HasNumbers) }
     ensures refused { IfErr result (λ e. IsRefusalBy IsOpeningRefusal (reason_of e)) }
 {
@@ -433,7 +437,7 @@ fn found(alloc: Global, what: &str, number: u64) -> Result<Output, Refusal>
     Ok(Output::Found(table_text(alloc, what, number)?))
 }
 
-fn check<R: Files<File = File> + AllocGlobal>(rt: &R, file: &str) -> Result<Answer, Fault>
+fn check<R: Files<File = File> + AllocGlobal>(rt: &R, file: &str) -> Result<Answer, ProgramError>
     ensures gives { IfOk result HasChecked }
     ensures refused { IfErr result (λ e. IsRefusalBy IsCheckRefusal (reason_of e)) }
 {

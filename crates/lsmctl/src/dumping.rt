@@ -7,7 +7,7 @@ ghost use Rattle.lsmctl.specs.Dumping.{Dumps, DumpsPage, IsUnprinted, StopsAtPag
 
 use crate::reply::push_row_lines;
 use lsm_device::{Device, Refusal};
-use lsm_language::Fault;
+use lsm_language::ProgramError;
 use lsm_store::{At, Page, Store};
 use lsm_upkeep::Walk;
 use std::alloc::Global;
@@ -18,7 +18,7 @@ pub fn dump_rows<D: Device, O: Write>(
     alloc: Global,
     store: &mut Store<D>,
     output: &mut O,
-) -> Result<(), Fault>
+) -> Result<(), ProgramError>
     ensures { MatchResult result
         (λ _. Dumps (O.contents output.old) (O.contents output.new) store.old store.new)
         (λ e. StopsDumping (reason_of e) store.old (O.contents output.old)
@@ -30,7 +30,7 @@ pub fn dump_rows<D: Device, O: Write>(
             return Ok(());
         }
     }
-    Err(Fault::Refused(Refusal::Exhausted))
+    Err(ProgramError::Refused(Refusal::Exhausted))
 }
 
 // Prints the next page. Returns whether there was one.
@@ -39,7 +39,7 @@ fn dump_page<D: Device, O: Write>(
     walk: &mut Walk,
     store: &mut Store<D>,
     output: &mut O,
-) -> Result<bool, Fault>
+) -> Result<bool, ProgramError>
     ensures { MatchResult result
         (λ more. DumpsPage more walk.old walk.new store.old store.new (O.contents output.old)
         (O.contents output.new))
@@ -55,7 +55,7 @@ fn dump_page<D: Device, O: Write>(
     }
 }
 
-fn print_page<O: Write>(alloc: Global, page: &Page, output: &mut O) -> Result<(), Fault>
+fn print_page<O: Write>(alloc: Global, page: &Page, output: &mut O) -> Result<(), ProgramError>
     ensures { MatchResult result
         (λ _. Appends (O.contents output.old) (O.contents output.new) (rows_lines page.now))
         (λ e. IsUnprinted (reason_of e) (O.contents output.old) (O.contents output.new)) }
@@ -64,6 +64,6 @@ fn print_page<O: Write>(alloc: Global, page: &Page, output: &mut O) -> Result<()
     push_row_lines(alloc, &mut text, page)?;
     match output.write_all(text.as_bytes()) {
         Ok(()) => Ok(()),
-        Err(error) => Err(Fault::Output(error)),
+        Err(error) => Err(ProgramError::Output(error)),
     }
 }

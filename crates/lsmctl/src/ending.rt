@@ -7,7 +7,7 @@ ghost use Rattle.lsmctl.specs.Endings.{Concludes, IsReported, TellsLack, answer_
 
 use crate::answer::{Answer, Output};
 use lsm_device::Refusal;
-use lsm_language::{Fault, Usage, cause_text, failure_text, refusal_text};
+use lsm_language::{ProgramError, Usage, cause_text, failure_text, refusal_text};
 use lsm_upkeep::Lack;
 use std::io;
 use std::io::Write;
@@ -23,7 +23,7 @@ pub const USAGE: u8 = 2;
 
 /// Writes the answer or the fault, and gives the exit status. That an answer could not be written is told on `errors`.
 pub fn conclude<O: Write, E: Write>(
-    answered: &Result<Answer, Fault>,
+    answered: &Result<Answer, ProgramError>,
     output: &mut O,
     errors: &mut E,
 ) -> u8
@@ -42,7 +42,7 @@ pub fn conclude<O: Write, E: Write>(
 }
 
 // The exit status, from what was answered and whether it could be written.
-fn status(answered: &Result<Answer, Fault>, written: &io::Result<()>) -> u8
+fn status(answered: &Result<Answer, ProgramError>, written: &io::Result<()>) -> u8
     ensures { result ≡ status_after answered.now written.now }
 {
     if written.is_err() {
@@ -51,13 +51,13 @@ fn status(answered: &Result<Answer, Fault>, written: &io::Result<()>) -> u8
     match answered {
         Ok(answer) => answer_status(answer),
         Err(
-            Fault::Refused(_)
-            | Fault::Failed(_)
-            | Fault::Unopened(_)
-            | Fault::Input(_)
-            | Fault::Output(_),
+            ProgramError::Refused(_)
+            | ProgramError::Failed(_)
+            | ProgramError::Unopened(_)
+            | ProgramError::Input(_)
+            | ProgramError::Output(_),
         ) => REFUSED,
-        Err(Fault::Usage(_)) => USAGE,
+        Err(ProgramError::Usage(_)) => USAGE,
     }
 }
 
@@ -154,25 +154,25 @@ fn print<O: Write>(output: &mut O, answer: &Answer) -> io::Result<()>
 }
 
 // The parser's texts end with a line feed of their own.
-fn report<E: Write>(errors: &mut E, fault: &Fault) -> io::Result<()>
+fn report<E: Write>(errors: &mut E, fault: &ProgramError) -> io::Result<()>
     ensures { OnOk result (IsReported fault.now (E.contents errors.old) (E.contents errors.new)) }
 {
     match fault {
-        Fault::Refused(refusal) => {
+        ProgramError::Refused(refusal) => {
             let refused = refusal_text(refusal);
             writeln!(errors, "{refused}")?;
         }
-        Fault::Failed(failure) => {
+        ProgramError::Failed(failure) => {
             let refused = refusal_text(failure.refusal());
             let text = failure_text(failure);
             writeln!(errors, "{refused}\nerror: {text}")?;
         }
-        Fault::Unopened(cause) => {
+        ProgramError::Unopened(cause) => {
             let refused = refusal_text(&Refusal::Io);
             let text = cause_text(cause);
             writeln!(errors, "{refused}\nerror: {text}")?;
         }
-        Fault::Usage(Usage::Words(error)) => write!(errors, "{error}")?,
+        ProgramError::Usage(Usage::Words(error)) => write!(errors, "{error}")?,
         _ => writeln!(errors, "error: {fault}")?,
     }
     errors.flush()?;

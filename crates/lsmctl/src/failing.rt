@@ -5,28 +5,28 @@ ghost use Rattle.lsm_device.specs.declared.refusal.Refusal.TheVariants.{NoMemory
 ghost use Rattle.lsm_language.specs.Faults.{IsRefusalBy, reason_of, refusal};
 
 use lsm_device::{FileDevice, OpenError, Refusal};
-use lsm_language::{Cause, Fault};
+use lsm_language::{Cause, ProgramError};
 use std::alloc::Global;
 use std::fs::{File, Files, OpenOptions};
 use std::io::{Error, ErrorKind};
 use std::path::Path;
 
 /// A refusal of calls on a file, with what the system said where one of the file's own failed.
-pub(crate) fn failed(alloc: Global, reason: Refusal, device: &FileDevice) -> Fault
+pub(crate) fn failed(alloc: Global, reason: Refusal, device: &FileDevice) -> ProgramError
     ensures { reason_of result ≡ refusal reason }
 {
     match device.last_error() {
-        Some(error) => Fault::failed(alloc, reason, &error),
-        None => Fault::Refused(reason),
+        Some(error) => ProgramError::failed(alloc, reason, &error),
+        None => ProgramError::Refused(reason),
     }
 }
 
 /// A fault of calls on a file, with what the system said if it is a refusal and one of the file's own calls failed.
-pub(crate) fn with_error(alloc: Global, fault: Fault, device: &FileDevice) -> Fault
+pub(crate) fn with_error(alloc: Global, fault: ProgramError, device: &FileDevice) -> ProgramError
     ensures { reason_of result ≡ reason_of fault }
 {
     match fault {
-        Fault::Refused(reason) => failed(alloc, reason, device),
+        ProgramError::Refused(reason) => failed(alloc, reason, device),
         other => other,
     }
 }
@@ -36,17 +36,17 @@ pub(crate) fn unopened<R: Files<File = File> + AllocGlobal>(
     rt: &R,
     path: &str,
     error: &OpenError,
-) -> Fault
+) -> ProgramError
     ensures { IsRefusalBy (λ e. (e ≡ NoMemory) ⊎ (e ≡ Io)) (reason_of result) }
 {
     match error {
         OpenError::Failed(error) if error.kind() == ErrorKind::NotFound && has_folder(rt, path) => {
-            Fault::Unopened(Cause::Missing)
+            ProgramError::Unopened(Cause::Missing)
         }
         OpenError::Failed(error) if error.kind() == ErrorKind::PermissionDenied => {
-            Fault::Unopened(Cause::Denied)
+            ProgramError::Unopened(Cause::Denied)
         }
-        OpenError::Uneven => Fault::Unopened(Cause::Uneven),
+        OpenError::Uneven => ProgramError::Unopened(Cause::Uneven),
         _ => unmade(rt, path, error),
     }
 }
@@ -56,28 +56,28 @@ pub(crate) fn unmade<R: Files<File = File> + AllocGlobal>(
     rt: &R,
     path: &str,
     error: &OpenError,
-) -> Fault
+) -> ProgramError
     ensures { IsRefusalBy (λ e. (e ≡ NoMemory) ⊎ (e ≡ Io)) (reason_of result) }
 {
     match error {
-        OpenError::InUse => Fault::Unopened(Cause::InUse),
-        OpenError::Folder => Fault::Unopened(Cause::Folder),
-        OpenError::NotAFile => Fault::Unopened(Cause::NotAFile),
-        OpenError::TooLarge => Fault::Unopened(Cause::TooLarge),
+        OpenError::InUse => ProgramError::Unopened(Cause::InUse),
+        OpenError::Folder => ProgramError::Unopened(Cause::Folder),
+        OpenError::NotAFile => ProgramError::Unopened(Cause::NotAFile),
+        OpenError::TooLarge => ProgramError::Unopened(Cause::TooLarge),
         // A block device of another size.
-        OpenError::Uneven => Fault::Refused(Refusal::Io),
-        OpenError::NoMemory => Fault::Refused(Refusal::NoMemory),
+        OpenError::Uneven => ProgramError::Refused(Refusal::Io),
+        OpenError::NoMemory => ProgramError::Refused(Refusal::NoMemory),
         OpenError::Failed(error) if error.kind() == ErrorKind::NotFound && !has_folder(rt, path) =>
-            { Fault::Unopened(Cause::NoFolder) }
+            { ProgramError::Unopened(Cause::NoFolder) }
         OpenError::Failed(error) => by_system(rt.alloc(), error),
     }
 }
 
 /// A call of the system that failed.
-pub(crate) fn by_system(alloc: Global, error: &Error) -> Fault
+pub(crate) fn by_system(alloc: Global, error: &Error) -> ProgramError
     ensures { reason_of result ≡ refusal Io }
 {
-    Fault::failed(alloc, Refusal::Io, error)
+    ProgramError::failed(alloc, Refusal::Io, error)
 }
 
 // Whether the folder of a file is there.

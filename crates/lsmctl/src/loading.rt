@@ -9,7 +9,7 @@ ghost use Rattle.lsmctl.specs.Loading.{AddsWaiting, ArePut, AreRead, CommitsWait
 
 use lsm_codec::{Batch, Op};
 use lsm_device::{Device, Refusal};
-use lsm_language::{Fault, MOST_ROW, Unread, Usage, beginning, next_line, read_row};
+use lsm_language::{MOST_ROW, ProgramError, Unread, Usage, beginning, next_line, read_row};
 use lsm_progress::{Milestone, Progress};
 use lsm_store::Store;
 use lsm_upkeep::{Upkeep, write};
@@ -30,7 +30,7 @@ pub struct Loading {
 #[derive(Drop)]
 pub struct Loaded {
     pub rows: u64,
-    pub ended: Result<(), Fault>,
+    pub ended: Result<(), ProgramError>,
 }
 
 /// Puts the rows of an input into a store, in their order, and syncs them. It ends at the end of the input, at a line that is
@@ -66,7 +66,7 @@ fn load_all<D: Device, I: BufRead, P: Progress>(
     input: &mut I,
     loading: &mut Loading,
     progress: &mut P,
-) -> Result<(), Fault>
+) -> Result<(), ProgramError>
     requires { loading.old ≡ none_loaded }
     ensures { ArePut (I.remaining input.old) result loading.new store.old store.new }
 {
@@ -78,10 +78,13 @@ fn load_all<D: Device, I: BufRead, P: Progress>(
     read
 }
 
-fn is_refused(ended: &Result<(), Fault>) -> bool
+fn is_refused(ended: &Result<(), ProgramError>) -> bool
     ensures { result ≡ is_refused ended.now }
 {
-    matches!(ended, Err(Fault::Refused(_) | Fault::Failed(_)))
+    matches!(
+        ended,
+        Err(ProgramError::Refused(_) | ProgramError::Failed(_))
+    )
 }
 
 // Reads rows to the end of the input, and commits all but the last of them.
@@ -91,7 +94,7 @@ fn read_rows<D: Device, I: BufRead, P: Progress>(
     input: &mut I,
     loading: &mut Loading,
     progress: &mut P,
-) -> Result<(), Fault>
+) -> Result<(), ProgramError>
     requires { loading.old ≡ none_loaded }
     ensures { AreRead (I.remaining input.old) result loading.new store.old store.new }
 {
@@ -106,11 +109,11 @@ fn read_rows<D: Device, I: BufRead, P: Progress>(
             rows: loading.loaded,
         });
     }
-    Err(Fault::Refused(Refusal::Exhausted))
+    Err(ProgramError::Refused(Refusal::Exhausted))
 }
 
 // The row of a line, after `before` others.
-fn row_in(alloc: Global, before: u64, line: &[u8]) -> Result<Op, Fault>
+fn row_in(alloc: Global, before: u64, line: &[u8]) -> Result<Op, ProgramError>
     ensures { MatchResult result (λ row. row_said line.now ≡ Some row)
         (λ e. ((reason_of e ≡ mistake) × (row_said line.now ≡ None))
         ⊎ (reason_of e ≡ refusal NoMemory)) }
@@ -120,9 +123,9 @@ fn row_in(alloc: Global, before: u64, line: &[u8]) -> Result<Op, Fault>
         Err(Unread::Malformed) => {
             let line = String::from_utf8_lossy(alloc, beginning(line))?;
             let number = before.saturating_add(1);
-            Err(Fault::Usage(Usage::Row { number, line }))
+            Err(ProgramError::Usage(Usage::Row { number, line }))
         }
-        Err(Unread::NoMemory) => Err(Fault::Refused(Refusal::NoMemory)),
+        Err(Unread::NoMemory) => Err(ProgramError::Refused(Refusal::NoMemory)),
     }
 }
 

@@ -37,7 +37,7 @@ use crate::ending::conclude;
 use crate::meter::Meter;
 use crate::program::run;
 use crate::streams::fill_closed;
-use lsm_language::{Fault, Usage};
+use lsm_language::{ProgramError, Usage};
 use lsm_progress::Progress;
 use std::alloc::AllocError;
 use std::env;
@@ -81,12 +81,12 @@ fn status<
 }
 
 // The words after the program's name, each of which has to be a text.
-fn words_of<R: Env + AllocGlobal>(rt: &R) -> Result<Vec<String>, Fault>
+fn words_of<R: Env + AllocGlobal>(rt: &R) -> Result<Vec<String>, ProgramError>
     ensures { IfErr result (λ e. (reason_of e ≡ mistake) ⊎ (reason_of e ≡ refusal NoMemory)) }
 {
     match env::args(rt) {
         Ok(words) => Ok(words.skip(1).collect(rt.alloc())?),
-        Err(error) if error.kind() == ErrorKind::OutOfMemory => Err(Fault::from(AllocError)),
-        Err(_) => Err(Fault::Usage(Usage::NoText)),
+        Err(error) if error.kind() == ErrorKind::OutOfMemory => Err(ProgramError::from(AllocError)),
+        Err(_) => Err(ProgramError::Usage(Usage::NoText)),
     }
 }

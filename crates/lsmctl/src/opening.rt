@@ -9,7 +9,7 @@ ghost use Rattle.lsmctl.specs.Answers.{WasOpened};
 
 use crate::failing::{by_system, failed, unmade, unopened};
 use lsm_device::{Device, FileDevice, Replacement};
-use lsm_language::Fault;
+use lsm_language::ProgramError;
 use lsm_lives::CACHE_BLOCKS;
 use lsm_store::Store;
 use std::fs::{File, Files};
@@ -18,7 +18,7 @@ use std::fs::{File, Files};
 pub(crate) fn open<R: Files<File = File> + AllocGlobal>(
     rt: &R,
     file: &str,
-) -> Result<Store<FileDevice>, Fault>
+) -> Result<Store<FileDevice>, ProgramError>
     ensures opened { IfOk result WasOpened }
     ensures refused { IfErr result (λ e. IsRefusalBy IsOpeningRefusal (reason_of e)) }
 {
@@ -36,7 +36,7 @@ pub(crate) fn open<R: Files<File = File> + AllocGlobal>(
 pub(crate) fn open_read_only<R: Files<File = File> + AllocGlobal>(
     rt: &R,
     file: &str,
-) -> Result<FileDevice, Fault>
+) -> Result<FileDevice, ProgramError>
     ensures unused { IfOk result (λ d. (⟦<FileDevice as Device>⟧.medium d).calls ≡ no_calls) }
     ensures refused { IfErr result
         (λ e. IsRefusalBy (λ r. (r ≡ NoMemory) ⊎ (r ≡ Io)) (reason_of e)) }
@@ -52,7 +52,7 @@ pub(crate) fn create_beside<R: Files<File = File> + AllocGlobal>(
     rt: &R,
     file: &str,
     sectors: u32,
-) -> Result<(FileDevice, Replacement), Fault>
+) -> Result<(FileDevice, Replacement), ProgramError>
     ensures size { IfOk result (λ made. (⟦<FileDevice as Device>⟧.medium made.0).size ≡ sectors) }
     ensures unused { IfOk result
         (λ made. (⟦<FileDevice as Device>⟧.medium made.0).calls ≡ no_calls) }
@@ -69,7 +69,7 @@ pub(crate) fn create_beside<R: Files<File = File> + AllocGlobal>(
 pub(crate) fn put_in_place<R: Files<File = File> + AllocGlobal>(
     rt: &R,
     replacement: Replacement,
-) -> Result<(), Fault>
+) -> Result<(), ProgramError>
     ensures refused { IfErr result (λ e. IsRefusalBy (λ r. r ≡ Io) (reason_of e)) }
 {
     match replacement.finish(rt) {

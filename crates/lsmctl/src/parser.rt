@@ -12,12 +12,15 @@ ghost use Rattle.lsmctl.specs.Runs.{has_dash, IsAsked, AskNothing};
 use clap::error::ErrorKind;
 use clap::{Arg, ArgAction, ArgMatches, Command};
 use lsm_device::Refusal;
-use lsm_language::{Fault, Subcommand, Usage, after};
+use lsm_language::{ProgramError, Subcommand, Usage, after};
 use std::alloc::{AllocError, Global};
 use std::convert::AsStr;
 
 /// Reads the words after the program's name.
-pub fn asked_for<'a, S: AsStr>(alloc: Global, words: &'a [S]) -> Result<Subcommand<'a>, Fault>
+pub fn asked_for<'a, S: AsStr>(
+    alloc: Global,
+    words: &'a [S],
+) -> Result<Subcommand<'a>, ProgramError>
     ensures asked { IfOk result (IsAsked (map S.text words.entry.now)) }
     ensures faults { IfErr result
         (λ e. ((reason_of e ≡ mistake) × AskNothing (map S.text words.entry.now))
@@ -25,16 +28,16 @@ pub fn asked_for<'a, S: AsStr>(alloc: Global, words: &'a [S]) -> Result<Subcomma
 {
     let matches = parsed(alloc, words)?;
     if let Some(word) = dashed(words) {
-        return Err(Fault::Usage(dash(alloc, word)?));
+        return Err(ProgramError::Usage(dash(alloc, word)?));
     }
     let Some((name, given)) = matches.subcommand() else {
-        return Err(Fault::Usage(Usage::Missing("the subcommand")));
+        return Err(ProgramError::Usage(Usage::Missing("the subcommand")));
     };
     Ok(subcommand(name, given)?)
 }
 
 // What the parser finds in the words.
-fn parsed<'a, S: AsStr>(alloc: Global, words: &'a [S]) -> Result<ArgMatches<'a>, Fault>
+fn parsed<'a, S: AsStr>(alloc: Global, words: &'a [S]) -> Result<ArgMatches<'a>, ProgramError>
     ensures found { IfOk result
         (λ m. subcommand_rows_of m ≡ subcommand_of program (map S.text words.entry.now)) }
     ensures faultless { IfOk result (λ _. fault_of program (map S.text words.entry.now) ≡ []) }
@@ -45,7 +48,7 @@ fn parsed<'a, S: AsStr>(alloc: Global, words: &'a [S]) -> Result<ArgMatches<'a>,
     let command = command(alloc)?;
     match command.try_get_matches_from(words) {
         Ok(matches) => Ok(matches),
-        Err(error) => Err(Fault::Usage(mistake_of(alloc, words, &error)?)),
+        Err(error) => Err(ProgramError::Usage(mistake_of(alloc, words, &error)?)),
     }
 }
 

@@ -9,7 +9,7 @@ use crate::answer::Answer;
 use crate::calls::answer_request;
 use crate::ending::conclude;
 use crate::parser::asked_for;
-use lsm_language::{Fault, Request, script_text};
+use lsm_language::{ProgramError, Request, script_text};
 use lsm_progress::Progress;
 use std::convert::AsStr;
 use std::fs::{File, Files};
@@ -57,7 +57,13 @@ fn answer<
     I: Read,
     O: Write,
     P: Progress,
->(rt: &R, words: &[S], input: &mut I, output: &mut O, progress: &mut P) -> Result<Answer, Fault>
+>(
+    rt: &R,
+    words: &[S],
+    input: &mut I,
+    output: &mut O,
+    progress: &mut P,
+) -> Result<Answer, ProgramError>
     ensures { MatchResult result
         (IsServed (map S.text words.entry.now) (I.remaining input.old) (O.contents output.old)
         (O.contents output.new))

@@ -51,7 +51,7 @@ pub enum Usage {
 /// A mistake in the words or the input, a refusal, one that a call of a file led to, a file that can't be opened, an input that
 /// could not be read, or an answer that could not be written.
 #[derive(Debug, Drop, Error)]
-pub enum Fault {
+pub enum ProgramError {
     #[error("{0}")]
     Usage(Usage),
     #[error("{text}", text = refusal_text(.0))]
@@ -66,17 +66,17 @@ pub enum Fault {
     Output(io::Error),
 }
 
-impl Fault {
+impl ProgramError {
     /// A refusal, with what the system said where a call of a file led to it and there is memory for the words.
-    pub fn failed(alloc: Global, reason: Refusal, error: &io::Error) -> Fault
+    pub fn failed(alloc: Global, reason: Refusal, error: &io::Error) -> ProgramError
         ensures { reason_of result ≡ refusal reason }
     {
         if !is_of_device(reason) {
-            return Fault::Refused(reason);
+            return ProgramError::Refused(reason);
         }
         match Failure::new(alloc, reason, error) {
-            Ok(failure) => Fault::Failed(failure),
-            Err(_) => Fault::Refused(reason),
+            Ok(failure) => ProgramError::Failed(failure),
+            Err(_) => ProgramError::Refused(reason),
         }
     }
 }
@@ -88,34 +88,34 @@ fn is_of_device(reason: Refusal) -> bool
     matches!(reason, Refusal::Io | Refusal::Stopped)
 }
 
-impl From<Usage> for Fault {
+impl From<Usage> for ProgramError {
     ghost from_gives = { λ _ fault. reason_of fault ≡ mistake };
 
-    fn from(usage: Usage) -> Fault {
-        Fault::Usage(usage)
+    fn from(usage: Usage) -> ProgramError {
+        ProgramError::Usage(usage)
     }
 }
 
-impl From<Refusal> for Fault {
+impl From<Refusal> for ProgramError {
     ghost from_gives = { λ r fault. reason_of fault ≡ refusal r };
 
-    fn from(reason: Refusal) -> Fault {
-        Fault::Refused(reason)
+    fn from(reason: Refusal) -> ProgramError {
+        ProgramError::Refused(reason)
     }
 }
 
-impl<T: Drop> From<AllocFailed<T>> for Fault {
+impl<T: Drop> From<AllocFailed<T>> for ProgramError {
     ghost from_gives = { λ _ fault. reason_of fault ≡ refusal NoMemory };
 
-    fn from(_: AllocFailed<T>) -> Fault {
-        Fault::Refused(Refusal::NoMemory)
+    fn from(_: AllocFailed<T>) -> ProgramError {
+        ProgramError::Refused(Refusal::NoMemory)
     }
 }
 
-impl From<AllocError> for Fault {
+impl From<AllocError> for ProgramError {
     ghost from_gives = { λ _ fault. reason_of fault ≡ refusal NoMemory };
 
-    fn from(_: AllocError) -> Fault {
-        Fault::Refused(Refusal::NoMemory)
+    fn from(_: AllocError) -> ProgramError {
+        ProgramError::Refused(Refusal::NoMemory)
     }
 }
