@@ -17,7 +17,8 @@ fn goes_on_after(subject: &mut Subject, reads: u64, sectors: u64, left: usize) -
 #[test]
 fn three_runs_are_read_in_two_steps(rt: HostRuntime) {
     let input = gathered(&rt, rt.alloc());
-    for (first, second) in [(0, 0), (7, 8), (8, 24), (63, 47)] {
+    const CASES: &[(u64, u64)] = &[(0, 0), (7, 8), (8, 24), (63, 47)];
+    for &(first, second) in CASES {
         let mut subject = Subject::new(&rt, rt.alloc());
         let is_read = goes_on_after(&mut subject, first, 64, 6)
             && goes_on_after(&mut subject, second, 48, 0);

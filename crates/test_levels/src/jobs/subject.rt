@@ -82,7 +82,7 @@ fn run_of<R: Abort>(rt: &R, alloc: Global, device: &mut MemDevice, keys: Keys) -
 /// The levels of the tables, which are written.
 fn levels<R: Abort>(rt: &R, alloc: Global, device: &mut MemDevice) -> Levels {
     let mut levels = Levels::new(alloc).expect(rt, "levels");
-    for keys in RUNS {
+    for &keys in RUNS.as_slice() {
         let run = run_of(rt, alloc, device, keys);
         add_run(rt, &mut levels, run);
     }

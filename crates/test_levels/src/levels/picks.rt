@@ -276,7 +276,8 @@ const ALL_LEVELS: Shape = (
 
 #[test]
 fn jobs_of_small_levels(rt: HostRuntime) {
-    for (runs, deeper, cases) in [FOUR, THREE, WIDE, ALONE, NEIGHBOURS, FIVE, ALL_LEVELS] {
+    const SHAPES: &[Shape] = &[FOUR, THREE, WIDE, ALONE, NEIGHBOURS, FIVE, ALL_LEVELS];
+    for &(runs, deeper, cases) in SHAPES {
         let levels = levels_of(&rt, rt.alloc(), runs, deeper);
         for case in cases {
             assert!(rt; is_answered(&levels, *case), "{runs:?} {:?}", case.0);
@@ -297,12 +298,13 @@ fn many() -> [Put; 65] {
 fn a_level_over_its_limit_gives_its_least_table(rt: HostRuntime) {
     let puts = many();
     // The table 200 of level 2 meets the table 40.
-    for (count, table, wanted) in [
+    const CASES: &[(usize, u64, ExpectedPick)] = &[
         (64, 1, Nothing),
         (65, 1, Merge(1, &[36], &[])),
         (65, 36, Merge(1, &[37], &[])),
         (61, 1, Nothing),
-    ] {
+    ];
+    for &(count, table, wanted) in CASES {
         let levels = levels_of(&rt, rt.alloc(), &[], &[&puts[..count], &[(200, 60)]]);
         let held = Slots::Merge { level: 1, table };
         assert!(rt;

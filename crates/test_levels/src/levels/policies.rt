@@ -112,7 +112,8 @@ const WITHIN_LIMITS: Shape = (
 
 #[test]
 fn advice_on_small_levels(rt: HostRuntime) {
-    for (runs, deeper, cases) in [THREE_RUNS, TWO_RUNS, OVER_LIMIT, LEVEL_2, WITHIN_LIMITS] {
+    const SHAPES: &[Shape] = &[THREE_RUNS, TWO_RUNS, OVER_LIMIT, LEVEL_2, WITHIN_LIMITS];
+    for &(runs, deeper, cases) in SHAPES {
         let levels = levels_of(&rt, rt.alloc(), runs, deeper);
         for case in cases {
             assert!(rt; is_advised(&levels, *case), "{deeper:?} {}", case.0);
@@ -136,7 +137,7 @@ fn room(levels: &Levels, most_tables: usize, free_blocks: u32) -> (bool, bool) {
 fn room_is_counted(rt: HostRuntime) {
     // Five tables have twenty blocks.
     let levels = levels_of(&rt, rt.alloc(), &[], &[FIVE]);
-    for (most_tables, free_blocks, wanted) in [
+    const CASES: &[(usize, u32, (bool, bool))] = &[
         (768, 9, (true, false)),
         (768, 10, (true, true)),
         (768, 19, (true, true)),
@@ -144,7 +145,8 @@ fn room_is_counted(rt: HostRuntime) {
         // Five tables are at most five, and more than four, however many blocks are free.
         (5, 20, (false, true)),
         (4, 5_000, (true, false)),
-    ] {
+    ];
+    for &(most_tables, free_blocks, wanted) in CASES {
         assert!(rt;
             room(&levels, most_tables, free_blocks) == wanted,
             "{free_blocks}"

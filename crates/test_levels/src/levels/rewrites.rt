@@ -26,7 +26,7 @@ const DEEPER: &[&[Put]] = &[
 /// The number of a table, the put as which it is rewritten, whether that is done, and the tables of the levels from 1 to 4 then.
 type Case = (u64, Put, bool, [&'static [u64]; 4]);
 
-const CASES: [Case; 5] = [
+const CASES: &[Case] = &[
     // The tables of the key 0x62 become others, one after the other, where each has one above it and below it.
     (4, (20, 0x62), true, [&[5, 20, 7], &[6], &[8], &[9, 10]]),
     (8, (21, 0x62), true, [&[5, 20, 7], &[6], &[21], &[9, 10]]),
@@ -40,7 +40,7 @@ const CASES: [Case; 5] = [
 fn a_rewrite_leaves_the_other_levels(rt: HostRuntime) {
     let mut levels = levels_of(&rt, rt.alloc(), RUNS, DEEPER);
     stand(&rt, &levels, &[2], &[&[5, 4, 7], &[6], &[8], &[9, 10]]);
-    for (number, put, is_done, deeper) in CASES {
+    for &(number, put, is_done, deeper) in CASES {
         let table = put.table(&rt, rt.alloc());
         assert!(rt;
             rewrite(rt.alloc(), &mut levels, number, table) == is_done,

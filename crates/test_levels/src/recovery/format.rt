@@ -89,7 +89,8 @@ fn failed<R: Abort>(rt: &R, alloc: Global, fuse: u64) -> MemDevice {
 
 #[test]
 fn device_calls_that_fail(rt: HostRuntime) {
-    for fuse in [0, 1, 513, 514, 515, 516, 517, 518] {
+    const FUSES: &[u64] = &[0, 1, 513, 514, 515, 516, 517, 518];
+    for &fuse in FUSES {
         let device = failed(&rt, rt.alloc(), fuse);
         assert!(rt; is_emptied(&rt, rt.alloc(), device), "{fuse}");
     }

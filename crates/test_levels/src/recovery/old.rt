@@ -8,7 +8,7 @@ use std::process::Abort;
 
 /// The sectors of an image of generation 4, in which the batch that puts 61 = 31 is flushed as table 1: both superblocks, the
 /// manifest, whose only log is that of region 1, the batch in its log, and index and footer of the table.
-const IMAGE: [(u32, &str); 6] = [
+const IMAGE: &[(u32, &str)] = &[
     (0, "4c534d53000100000000000000040000200000800001"),
     (1, "4c534d53000100000000000000030000200000800001"),
     (
@@ -25,7 +25,7 @@ const IMAGE: [(u32, &str); 6] = [
 ];
 
 /// The bytes of the filter, which has the key 61: their sectors, and their places there.
-const FILTER: [(u32, usize, u8); 7] = [
+const FILTER: &[(u32, usize, u8)] = &[
     (528, 401, 0x10),
     (526, 283, 0x02),
     (524, 164, 0x40),
@@ -54,10 +54,10 @@ const BATCH: &str =
 /// The image with this data block. Nothing pends.
 fn old_image<R: Abort>(rt: &R, alloc: Global, block: &str) -> MemDevice {
     let mut device = zeros(rt, alloc);
-    for (at, text) in IMAGE {
+    for &(at, text) in IMAGE {
         put(rt, &mut device, at, &sector_of(rt, text));
     }
-    for (at, place, byte) in FILTER {
+    for &(at, place, byte) in FILTER {
         assert!(rt; place < 512);
         let mut bytes = [0; 512];
         bytes[place] = byte;
@@ -77,7 +77,7 @@ fn is_hidden<R: Abort>(rt: &R, alloc: Global, sector: u32) -> bool {
 
 #[test]
 fn a_key_of_which_the_filter_lacks_a_bit_is_absent(rt: HostRuntime) {
-    for (sector, _, _) in FILTER {
+    for &(sector, _, _) in FILTER {
         assert!(rt; is_hidden(&rt, rt.alloc(), sector), "{sector}");
     }
 }
@@ -106,10 +106,10 @@ fn finds<R: Abort>(
 
 #[test]
 fn a_first_opening_that_is_stopped(rt: HostRuntime) {
-    let masks = [[false, false], [true, false], [false, true], [true, true]];
+    const MASKS: &[[bool; 2]] = &[[false, false], [true, false], [false, true], [true, true]];
     for fuse in 0..5u64 {
-        for keep in masks {
-            let device = stopped(&rt, rt.alloc(), fuse, &keep);
+        for keep in MASKS {
+            let device = stopped(&rt, rt.alloc(), fuse, keep);
             let is_found = finds(&rt, rt.alloc(), device, Some(0x31), None);
             assert!(rt; is_found, "{fuse} {keep:?}");
         }

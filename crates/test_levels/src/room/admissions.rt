@@ -71,12 +71,13 @@ fn admitted_beside<R: Abort>(rt: &R, alloc: Global, free: u32, memory: InMemory)
 fn puts_leave_the_reserve(rt: HostRuntime) {
     // Of 500 blocks 240 stay free, and 20 more if easily. So many puts, one in a block and three blocks more, are at most 232 data blocks in
     // four tables, with 15 blocks of their indexes, and 259 in all. One more makes it 261. 211 come to 240 in all.
-    for (count, wanted) in [
+    const CASES: &[(u64, (bool, bool))] = &[
         (211, (true, true)),
         (212, (true, false)),
         (229, (true, false)),
         (230, (false, false)),
-    ] {
+    ];
+    for &(count, wanted) in CASES {
         let given = admitted(&rt, rt.alloc(), 500, MemSize::empty(), puts(count));
         assert!(rt; given == wanted, "{count}");
     }
@@ -85,14 +86,15 @@ fn puts_leave_the_reserve(rt: HostRuntime) {
 #[test]
 fn what_waits_counts_too(rt: HostRuntime) {
     // 229 puts of the largest entry find room in 500 blocks, and 230 don't, however many of them wait for a flush.
-    for (waiting, count, wanted) in [
+    const CASES: &[(u64, u64, bool)] = &[
         (0, 229, true),
         (100, 129, true),
         (228, 1, true),
         (100, 130, false),
         (229, 1, false),
         (229, 0, true),
-    ] {
+    ];
+    for &(waiting, count, wanted) in CASES {
         let memory = InMemory {
             waiting: puts(waiting),
             before: MemSize::empty(),
@@ -148,13 +150,14 @@ fn deletes_leave_room_for_steps(rt: HostRuntime) {
     // 989 deletes are 69 data blocks at most, in two tables, with 5 blocks of their indexes: 80 in all. One more makes it 81, and then they are
     // taken where puts find room too: these leave 180 free. Of a small area 100 blocks stay free beside the flush. That of 989 has 15 deletes
     // in a block and two blocks more, 67 and one more for a second table, 5 of indexes and 6 besides, so 79, and that of 990 has 80.
-    for (count, free, wanted) in [
+    const CASES: &[(u64, u32, bool)] = &[
         (989, 179, true),
         (989, 178, false),
         (990, 180, true),
         (990, 179, false),
         (990, 5_000, true),
-    ] {
+    ];
+    for &(count, free, wanted) in CASES {
         let (given, _) = admitted(&rt, rt.alloc(), free, MemSize::empty(), deletes(count));
         assert!(rt; given == wanted, "{count} {free}");
     }
@@ -257,8 +260,10 @@ fn memory_may_become_so_large(rt: HostRuntime) {
 
 #[test]
 fn what_is_allowed_is_admitted(rt: HostRuntime) {
-    for free in [260, 300, 500, 2_000] {
-        for count in [1, 20, 40, 55, 80, 160] {
+    const FREE: &[u32] = &[260, 300, 500, 2_000];
+    const COUNTS: &[u64] = &[1, 20, 40, 55, 80, 160];
+    for &free in FREE {
+        for &count in COUNTS {
             if !allowed(&rt, rt.alloc(), free, puts(1), puts(count)) {
                 continue;
             }

@@ -123,7 +123,7 @@ fn outputs_find_room(rt: HostRuntime) {
     let held = Slots::Free;
     // All blocks of one gap. In two gaps of 5 blocks a table of 3 may begin at 3 blocks each, so 3 + 6 - 1 blocks find room. None of
     // the tables has more blocks than all together.
-    for (gaps, free, blocks, largest, wanted) in [
+    const CASES: &[(u32, u32, u64, u64, bool)] = &[
         (1, 10, 10, 3, true),
         (1, 10, 11, 3, false),
         (2, 5, 8, 3, true),
@@ -131,7 +131,8 @@ fn outputs_find_room(rt: HostRuntime) {
         (2, 5, 6, 6, false),
         (2, 5, 5, 60, true),
         (2, 5, u64::MAX, 5, false),
-    ] {
+    ];
+    for &(gaps, free, blocks, largest, wanted) in CASES {
         let extents = area_of(&rt, rt.alloc(), gaps, free);
         let outputs = Outputs {
             blocks,
@@ -145,16 +146,29 @@ fn outputs_find_room(rt: HostRuntime) {
 
 #[test]
 fn small_steps_where_room_is_scarce(rt: HostRuntime) {
+    const TABLE: Choice = Choice::Tables {
+        first: 11,
+        last: 11,
+    };
+    const CUT: Choice = Choice::Rewrite {
+        first: 11,
+        last: 11,
+    };
+    const MOVE: Choice = Choice::Rewrite {
+        first: 14,
+        last: 14,
+    };
     let levels = levels_of(&rt, rt.alloc(), &[], OVER_THREE);
     // The merge may make one table of two data blocks: 6 blocks. A cut makes two tables of 4 blocks at most. A copy takes 4, and where that
     // leaves the longest gap as long, the table that lies highest is moved.
-    for (gaps, blocks, wanted) in [
-        (1, 6, Advised::Take(table(11), 0)),
-        (1, 5, Advised::Lacks(table(11))),
-        (3, 5, Advised::Take(rewrite(11, 11), 1)),
-        (2, 4, Advised::Take(rewrite(14, 14), 0)),
-        (2, 3, Advised::Lacks(table(11))),
-    ] {
+    const CASES: &[(u32, u32, Advised)] = &[
+        (1, 6, Advised::Take(TABLE, 0)),
+        (1, 5, Advised::Lacks(TABLE)),
+        (3, 5, Advised::Take(CUT, 1)),
+        (2, 4, Advised::Take(MOVE, 0)),
+        (2, 3, Advised::Lacks(TABLE)),
+    ];
+    for &(gaps, blocks, wanted) in CASES {
         let extents = area_of(&rt, rt.alloc(), gaps, blocks);
         assert!(rt;
             down(rt.alloc(), &levels, &extents) == wanted,
@@ -165,6 +179,7 @@ fn small_steps_where_room_is_scarce(rt: HostRuntime) {
 
 #[test]
 fn moves_and_joinings(rt: HostRuntime) {
+    const ALL: Choice = Choice::Rewrite { first: 1, last: 5 };
     let extents = area_of(&rt, rt.alloc(), 1, 500);
     let five = levels_of(&rt, rt.alloc(), &[], &[FIVE]);
     // A move would make the only gap shorter.
@@ -172,12 +187,13 @@ fn moves_and_joinings(rt: HostRuntime) {
     assert!(rt; aside_and_together(rt.alloc(), &five, &extents) == together);
     // One entry each goes into one data block, so four blocks are enough for the table of all. By the number of their data blocks they
     // might take eight.
-    for (blocks, wanted) in [
-        (8, Advised::Take(rewrite(1, 5), 0)),
-        (7, Advised::Try(rewrite(1, 5), 0)),
-        (4, Advised::Try(rewrite(1, 5), 0)),
+    const CASES: &[(u32, Advised)] = &[
+        (8, Advised::Take(ALL, 0)),
+        (7, Advised::Try(ALL, 0)),
+        (4, Advised::Try(ALL, 0)),
         (3, Advised::Nothing),
-    ] {
+    ];
+    for &(blocks, wanted) in CASES {
         let gap = area_of(&rt, rt.alloc(), 1, blocks);
         let (_, joined) = aside_and_together(rt.alloc(), &five, &gap);
         assert!(rt; joined == wanted, "{blocks}");
@@ -198,12 +214,13 @@ fn moves_and_joinings(rt: HostRuntime) {
 fn a_run_surely_goes(rt: HostRuntime) {
     // It has four blocks, and so has its copy at most.
     let levels = levels_of(&rt, rt.alloc(), &[ALONE], &[]);
-    for (count, blocks, most_blocks, wanted) in [
+    const CASES: &[(usize, u32, u64, bool)] = &[
         (1, 4, 4, true),
         (1, 3, 4, false),
         (1, 4, 3, false),
         (2, 500, 500, false),
-    ] {
+    ];
+    for &(count, blocks, most_blocks, wanted) in CASES {
         let extents = area_of(&rt, rt.alloc(), 1, blocks);
         let choice = Choice::OldestRuns { count };
         let held = Slots::Free;
