@@ -6,7 +6,7 @@ use std::process::Abort;
 
 /// A store of seven rows, with keys that are prefixes of others, and with the greatest byte in keys.
 fn with_keys<R: AllocGlobal + Abort>(rt: &R) -> Subject<MemDevice> {
-    let keys: [&[u8]; 7] = [
+    const KEYS: &[&[u8]] = &[
         b"a",
         b"ab",
         &[0x61, 0x62, 255],
@@ -16,7 +16,7 @@ fn with_keys<R: AllocGlobal + Abort>(rt: &R) -> Subject<MemDevice> {
         &[255, 255, 3],
     ];
     let mut db = begun(rt);
-    for key in keys {
+    for &key in KEYS {
         db.put(key, b"value").expect(rt, "a batch");
     }
     db

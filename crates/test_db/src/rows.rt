@@ -51,7 +51,8 @@ fn count(
 fn all_rows_come(rt: HostRuntime) {
     let mut db = with_rows(&rt);
     assert!(rt; count(&mut db, At::Now, (b"", None), 0, 1) == Ok(Some(200)));
-    for end in [0, 1, 63, 64, 65, 127, 128, 129, 199] {
+    const ENDS: &[u8] = &[0, 1, 63, 64, 65, 127, 128, 129, 199];
+    for &end in ENDS {
         assert!(rt; count(&mut db, At::Now, (b"", Some(&key_of(end))), 0, 1) == Ok(Some(end)));
     }
 }
