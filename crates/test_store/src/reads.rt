@@ -31,13 +31,14 @@ fn reads_of<R: Abort>(rt: &R, alloc: Global, cache: u32, keys: &[u8]) -> u64 {
 
 #[test]
 fn a_block_is_read_unless_the_cache_has_it(rt: HostRuntime) {
-    let turn = [0x61, 0x63, 0x65, 0x61].as_slice();
-    for (cache, keys, wanted) in [
-        (2, turn, 32),
-        (3, turn, 24),
-        (4_096, turn, 24),
+    const TURN: &[u8] = &[0x61, 0x63, 0x65, 0x61];
+    const CASES: &[(u32, &[u8], u64)] = &[
+        (2, TURN, 32),
+        (3, TURN, 24),
+        (4_096, TURN, 24),
         (2, &[0x65], 8),
-    ] {
+    ];
+    for &(cache, keys, wanted) in CASES {
         let reads = reads_of(&rt, rt.alloc(), cache, keys);
         assert!(rt; reads == wanted, "{cache}: {reads}");
     }
@@ -73,7 +74,7 @@ fn each_of_64_blocks_is_read_once(rt: HostRuntime) {
 
 /// Where a page begins, how many rows it may have, how many it has, and how many sectors are read for it. The key of the row that it
 /// leaves out may stand in the next block.
-const PAGES: [(&[u8], u64, (usize, u64)); 5] = [
+const PAGES: &[(&[u8], u64, (usize, u64))] = &[
     (&[], 64, (3, 24)),
     (&[0x62], 64, (2, 16)),
     (&[0x61], 1, (1, 16)),
@@ -83,7 +84,7 @@ const PAGES: [(&[u8], u64, (usize, u64)); 5] = [
 
 #[test]
 fn a_page_reads_each_block_once(rt: HostRuntime) {
-    for (from, limit, wanted) in PAGES {
+    for &(from, limit, wanted) in PAGES {
         let page = with_three_blocks(&rt, rt.alloc(), 1).page(&rt, from, limit);
         assert!(rt; page == wanted, "{from:?}: {page:?}");
     }
@@ -134,7 +135,7 @@ fn with_a_table<R: Abort>(rt: &R, alloc: Global) -> Subject {
 type Guarded = (u8, Option<u8>, u8, Result<u64, Refusal>, u64);
 
 /// A block is read once, for a guard as for a look-up, and none of a key that the filter denies, or that memory has.
-const GUARDED: [Guarded; 6] = [
+const GUARDED: &[Guarded] = &[
     (0x62, Some(0x32), 0x33, Err(Refusal::GuardFailed(0)), 0),
     (0x62, None, 0x32, Ok(3), 0),
     (0x61, Some(0x33), 0x34, Err(Refusal::GuardFailed(0)), 8),
@@ -146,7 +147,7 @@ const GUARDED: [Guarded; 6] = [
 #[test]
 fn a_guard_reads_as_a_look_up_does(rt: HostRuntime) {
     let mut store = with_a_table(&rt, rt.alloc());
-    for (key, wanted, value, answer, reads) in GUARDED {
+    for &(key, wanted, value, answer, reads) in GUARDED {
         let found = store.put_if(&rt, key, wanted, value);
         assert!(rt; found == (answer, reads), "{key}: {found:?}");
     }
@@ -155,7 +156,7 @@ fn a_guard_reads_as_a_look_up_does(rt: HostRuntime) {
 
 /// The call of the device that fails, the value of 61 that a guard asks for, the one that is put, and the answer. A read of a guard
 /// that fails changes nothing, the last of its block neither; a write that fails stops the store.
-const FAILING: [(u64, u8, u8, Result<u64, Refusal>); 5] = [
+const FAILING: &[(u64, u8, u8, Result<u64, Refusal>)] = &[
     (0, 0x31, 0x34, Err(Refusal::Io)),
     (7, 0x31, 0x34, Err(Refusal::Io)),
     (u64::MAX, 0x31, 0x34, Ok(3)),
@@ -166,7 +167,7 @@ const FAILING: [(u64, u8, u8, Result<u64, Refusal>); 5] = [
 #[test]
 fn only_a_write_that_fails_stops_the_store(rt: HostRuntime) {
     let mut store = with_a_table(&rt, rt.alloc());
-    for (call, wanted, value, answer) in FAILING {
+    for &(call, wanted, value, answer) in FAILING {
         store.fail(call, false);
         let (found, _) = store.put_if(&rt, 0x61, Some(wanted), value);
         assert!(rt; found == answer, "{call}: {found:?}");

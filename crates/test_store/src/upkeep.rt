@@ -107,7 +107,8 @@ fn a_store_is_compacted_where_room_is_scarce(rt: HostRuntime) {
     // Two small tables have four blocks each. Of long values a block holds one, and two tables beside have a filter, an index and a
     // footer each: so all take 119 blocks or 120, and as many are free, or one fewer. Then the two small ones go, as all three find
     // no room. Three tables are at most three; of more than so many all go.
-    for (count, most_tables, wanted) in [(105, 768, 3), (106, 768, 1), (1, 3, 3), (1, 2, 0)] {
+    const CASES: &[(u8, usize, usize)] = &[(105, 768, 3), (106, 768, 1), (1, 3, 3), (1, 2, 0)];
+    for &(count, most_tables, wanted) in CASES {
         let runs = runs_left(&rt, rt.alloc(), count, most_tables);
         assert!(rt; runs == wanted, "{count} {most_tables}: {runs}");
     }

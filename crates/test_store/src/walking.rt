@@ -70,7 +70,7 @@ fn walked<R: Abort>(rt: &R, store: &mut Subject, from: &[u8], first: u8) -> [Opt
 
 /// Keys with which walks begin, the number of the first row from there on, and how many rows each page has. The last page is told
 /// before the end, where it is full too, and where it has no row.
-const WALKS: [(&[u8], u8, [Option<usize>; 4]); 6] = [
+const WALKS: &[(&[u8], u8, [Option<usize>; 4])] = &[
     (b"", 0, [Some(64), Some(64), Some(22), None]),
     (&[0x6b, 0], 0, [Some(64), Some(64), Some(22), None]),
     (&[0x6b, 22], 22, [Some(64), Some(64), None, None]),
@@ -82,7 +82,7 @@ const WALKS: [(&[u8], u8, [Option<usize>; 4]); 6] = [
 #[test]
 fn a_walk_gives_all_rows_from_a_key_on(rt: HostRuntime) {
     let mut store = with_rows(&rt, rt.alloc());
-    for (from, first, wanted) in WALKS {
+    for &(from, first, wanted) in WALKS {
         let counts = walked(&rt, &mut store, from, first);
         assert!(rt; counts == wanted, "{first}: {counts:?}");
     }
