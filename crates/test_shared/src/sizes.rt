@@ -24,14 +24,15 @@ fn refusal_of<R: Abort>(rt: &R, alloc: Global, clients: u32, places: u32) -> Opt
 
 #[test]
 fn a_session_has_1_to_64_clients_and_1_to_65536_places(rt: HostRuntime) {
-    for (clients, places, wanted) in [
+    const CASES: &[(u32, u32, Option<Refusal>)] = &[
         (0, 1, Some(Refusal::TooManyClients)),
         (65, 1, Some(Refusal::TooManyClients)),
         (1, 0, Some(Refusal::BadLimit)),
         (1, 65_537, Some(Refusal::BadLimit)),
         (64, 1, None),
         (1, 65_536, None),
-    ] {
+    ];
+    for &(clients, places, wanted) in CASES {
         let refusal = refusal_of(&rt, rt.alloc(), clients, places);
         assert!(rt; refusal == wanted, "{clients} {places}");
     }
