@@ -61,12 +61,13 @@ fn decoded(alloc: Global, block: &[u8; 4_096]) -> Result<(usize, bool), Refusal>
 
 #[test]
 fn a_data_block_is_decoded(rt: HostRuntime) {
-    for (text, wanted) in [
+    const CASES: &[(&str, Result<(usize, bool), Refusal>)] = &[
         (DATA_BLOCK, Ok((1, true))),
         ("", Err(Refusal::BadTable)), // No entry.
         ("00020161000000000000000101000131", Err(Refusal::BadTable)), // One entry of two.
         ("0001016100000000000000010100013101", Err(Refusal::BadTable)), // A byte after the entry.
-    ] {
+    ];
+    for &(text, wanted) in CASES {
         let block = block_of(text).expect(&rt, "a block");
         assert!(rt; decoded(rt.alloc(), &block) == wanted, "{text}");
     }
@@ -103,15 +104,16 @@ fn is_of_three(table: &Table) -> bool {
 fn a_table_of_three_blocks(rt: HostRuntime) {
     let table = of_three(&rt, rt.alloc());
     assert!(rt; is_of_three(&table));
-    for (key, at, place) in [
-        (b"a".as_slice(), 1, Some(0)),
+    const CASES: &[(&[u8], u64, Option<usize>)] = &[
+        (b"a", 1, Some(0)),
         (b"b", 1, Some(1)),
         (b"bb", 9, Some(2)),
         (b"c", 9, Some(2)),
         (b"d", 9, None), // Behind the last key.
         (b"A", 9, None), // Before the first.
         (b"a", 0, None), // Before the first batch.
-    ] {
+    ];
+    for &(key, at, place) in CASES {
         assert!(rt; table.place(key, at) == place);
     }
 }
@@ -147,13 +149,14 @@ fn is_table<R: Abort>(
 fn records_of_other_tables(rt: HostRuntime) {
     let image = image_of(&rt, rt.alloc(), &[b"a".as_slice(), b"b"], &[7; 2_048]);
     let footer = image.footer(9);
-    for (numbers, fits) in [
+    const CASES: &[((u64, u8, u8, u16), bool)] = &[
         ((9, 2, 1, 2), true),
         ((8, 2, 1, 2), false),
         ((9, 1, 1, 2), false),
         ((9, 2, 2, 2), false),
         ((9, 2, 1, 3), false),
-    ] {
+    ];
+    for &(numbers, fits) in CASES {
         assert!(rt; is_table(&rt, rt.alloc(), numbers, &footer, image.index()) == fits);
     }
 }
