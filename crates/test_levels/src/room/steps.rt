@@ -146,7 +146,7 @@ fn outputs_find_room(rt: HostRuntime) {
 
 #[test]
 fn small_steps_where_room_is_scarce(rt: HostRuntime) {
-    const TABLE: Choice = Choice::Tables {
+    const MERGE: Choice = Choice::Tables {
         first: 11,
         last: 11,
     };
@@ -162,11 +162,11 @@ fn small_steps_where_room_is_scarce(rt: HostRuntime) {
     // The merge may make one table of two data blocks: 6 blocks. A cut makes two tables of 4 blocks at most. A copy takes 4, and where that
     // leaves the longest gap as long, the table that lies highest is moved.
     const CASES: &[(u32, u32, Advised)] = &[
-        (1, 6, Advised::Take(TABLE, 0)),
-        (1, 5, Advised::Lacks(TABLE)),
+        (1, 6, Advised::Take(MERGE, 0)),
+        (1, 5, Advised::Lacks(MERGE)),
         (3, 5, Advised::Take(CUT, 1)),
         (2, 4, Advised::Take(MOVE, 0)),
-        (2, 3, Advised::Lacks(TABLE)),
+        (2, 3, Advised::Lacks(MERGE)),
     ];
     for &(gaps, blocks, wanted) in CASES {
         let extents = area_of(&rt, rt.alloc(), gaps, blocks);
