@@ -70,58 +70,60 @@ const B: Row = (2, 0, 1, 4, 1, 1, 1, Some(0));
 
 const C: Row = (3, 1, 0, 8, 1, 1, 1, Some(0));
 
+const NONE: Option<u16> = Some(0);
+
 #[test]
 fn table_records_in_order_and_out_of_it(rt: HostRuntime) {
-    let none = Some(0);
-    for (what, runs, rows, fits) in [
+    const CASES: &[(&str, u8, [Row; 3], bool)] = &[
         ("in order", 2, [A, B, C], true),
         ("the later run first", 2, [B, A, C], false),
         ("the later level first", 2, [C, A, B], false),
         (
             "a number twice",
             2,
-            [A, (1, 0, 1, 4, 1, 1, 1, none), C],
+            [A, (1, 0, 1, 4, 1, 1, 1, NONE), C],
             false,
         ),
         (
             "the next number",
             2,
-            [A, B, (4, 1, 0, 8, 1, 1, 1, none)],
+            [A, B, (4, 1, 0, 8, 1, 1, 1, NONE)],
             false,
         ),
         (
             "the first blocks meet",
             2,
-            [A, (2, 0, 1, 3, 1, 1, 1, none), C],
+            [A, (2, 0, 1, 3, 1, 1, 1, NONE), C],
             false,
         ),
         (
             "the last blocks meet",
             2,
-            [A, B, (3, 1, 0, 0, 1, 1, 1, none)],
+            [A, B, (3, 1, 0, 0, 1, 1, 1, NONE)],
             false,
         ),
         (
             "apart, in no order",
             2,
-            [(1, 0, 0, 8, 1, 1, 1, none), B, (3, 1, 0, 0, 1, 1, 1, none)],
+            [(1, 0, 0, 8, 1, 1, 1, NONE), B, (3, 1, 0, 0, 1, 1, 1, NONE)],
             true,
         ),
         ("a run without a record", 3, [A, B, C], false),
-        ("a run that is none", 1, [A, B, C], false),
+        ("a run that is NONE", 1, [A, B, C], false),
         (
             "two tables of a run",
             1,
-            [A, (2, 0, 0, 4, 1, 1, 1, none), C],
+            [A, (2, 0, 0, 4, 1, 1, 1, NONE), C],
             true,
         ),
         (
             "two tables of a level",
             0,
-            [(1, 1, 0, 0, 1, 1, 1, none), (2, 1, 0, 4, 1, 1, 1, none), C],
+            [(1, 1, 0, 0, 1, 1, 1, NONE), (2, 1, 0, 4, 1, 1, 1, NONE), C],
             true,
         ),
-    ] {
+    ];
+    for &(what, runs, rows, fits) in CASES {
         assert!(rt; are_limited(&rt, rt.alloc(), runs, &rows, fits), "{what}");
     }
 }

@@ -70,115 +70,118 @@ const ONE: Place = Place::Of(1, SECTORS, LOG);
 
 const TWO: Place = Place::Of(2, SECTORS, LOG);
 
+/// Superblocks, the generation that is loaded or the refusal, and what they are.
+const SUPERBLOCKS: &[(Place, Place, Result<u64, Refusal>, &str)] = &[
+    (TWO, ONE, Ok(2), "the newer"),
+    (TWO, Place::Blank, Ok(2), "a lone one"),
+    (Place::Blank, ONE, Ok(1), "a lone one"),
+    (Place::Old(2), Place::Old(1), Ok(2), "version 1"),
+    (TWO, Place::Old(1), Ok(2), "the first of version 2"),
+    (
+        Place::Blank,
+        Place::Old(1),
+        Ok(1),
+        "a lone one of version 1",
+    ),
+    (
+        Place::Old(2),
+        Place::Blank,
+        Ok(2),
+        "a lone one of version 1",
+    ),
+    (Place::Blank, Place::Blank, Err(Refusal::NotAStore), "none"),
+    (
+        Place::Ones,
+        Place::Blank,
+        Err(Refusal::BadSuper),
+        "no superblock",
+    ),
+    (
+        Place::Blank,
+        Place::Ones,
+        Err(Refusal::BadSuper),
+        "no superblock",
+    ),
+    (TWO, Place::Ones, Err(Refusal::BadSuper), "no superblock"),
+    (
+        ONE,
+        Place::Blank,
+        Err(Refusal::BadSuper),
+        "in the wrong sector",
+    ),
+    (
+        Place::Blank,
+        TWO,
+        Err(Refusal::BadSuper),
+        "in the wrong sector",
+    ),
+    (ONE, TWO, Err(Refusal::BadSuper), "in the wrong sector"),
+    (
+        TWO,
+        Place::Of(5, SECTORS, LOG),
+        Err(Refusal::BadSuper),
+        "not one apart",
+    ),
+    (
+        Place::Of(4, SECTORS, LOG),
+        ONE,
+        Err(Refusal::BadSuper),
+        "not one apart",
+    ),
+    (
+        TWO,
+        Place::Of(1, SECTORS, 129),
+        Err(Refusal::BadSuper),
+        "of two sizes",
+    ),
+    (
+        TWO,
+        Place::Of(1, 8_193, LOG),
+        Err(Refusal::BadSuper),
+        "of two sizes",
+    ),
+    (
+        Place::Old(2),
+        ONE,
+        Err(Refusal::BadSuper),
+        "version 1 after version 2",
+    ),
+    (
+        TWO,
+        Place::Old(3),
+        Err(Refusal::BadSuper),
+        "version 1 after version 2",
+    ),
+    (
+        Place::Of(2, 8_200, LOG),
+        Place::Blank,
+        Err(Refusal::BadGeometry),
+        "another device's",
+    ),
+    (
+        Place::Blank,
+        Place::Of(1, 8_200, LOG),
+        Err(Refusal::BadGeometry),
+        "another device's",
+    ),
+    (
+        Place::Of(4, SECTORS, LOG),
+        Place::Blank,
+        Err(Refusal::BadManifest),
+        "another manifest",
+    ),
+    (
+        Place::Blank,
+        Place::Of(3, SECTORS, LOG),
+        Err(Refusal::BadManifest),
+        "another manifest",
+    ),
+];
+
 #[test]
 fn superblocks_that_are_loaded_and_refused(rt: HostRuntime) {
-    for (even, odd, answer, what) in [
-        (TWO, ONE, Ok(2), "the newer"),
-        (TWO, Place::Blank, Ok(2), "a lone one"),
-        (Place::Blank, ONE, Ok(1), "a lone one"),
-        (Place::Old(2), Place::Old(1), Ok(2), "version 1"),
-        (TWO, Place::Old(1), Ok(2), "the first of version 2"),
-        (
-            Place::Blank,
-            Place::Old(1),
-            Ok(1),
-            "a lone one of version 1",
-        ),
-        (
-            Place::Old(2),
-            Place::Blank,
-            Ok(2),
-            "a lone one of version 1",
-        ),
-        (Place::Blank, Place::Blank, Err(Refusal::NotAStore), "none"),
-        (
-            Place::Ones,
-            Place::Blank,
-            Err(Refusal::BadSuper),
-            "no superblock",
-        ),
-        (
-            Place::Blank,
-            Place::Ones,
-            Err(Refusal::BadSuper),
-            "no superblock",
-        ),
-        (TWO, Place::Ones, Err(Refusal::BadSuper), "no superblock"),
-        (
-            ONE,
-            Place::Blank,
-            Err(Refusal::BadSuper),
-            "in the wrong sector",
-        ),
-        (
-            Place::Blank,
-            TWO,
-            Err(Refusal::BadSuper),
-            "in the wrong sector",
-        ),
-        (ONE, TWO, Err(Refusal::BadSuper), "in the wrong sector"),
-        (
-            TWO,
-            Place::Of(5, SECTORS, LOG),
-            Err(Refusal::BadSuper),
-            "not one apart",
-        ),
-        (
-            Place::Of(4, SECTORS, LOG),
-            ONE,
-            Err(Refusal::BadSuper),
-            "not one apart",
-        ),
-        (
-            TWO,
-            Place::Of(1, SECTORS, 129),
-            Err(Refusal::BadSuper),
-            "of two sizes",
-        ),
-        (
-            TWO,
-            Place::Of(1, 8_193, LOG),
-            Err(Refusal::BadSuper),
-            "of two sizes",
-        ),
-        (
-            Place::Old(2),
-            ONE,
-            Err(Refusal::BadSuper),
-            "version 1 after version 2",
-        ),
-        (
-            TWO,
-            Place::Old(3),
-            Err(Refusal::BadSuper),
-            "version 1 after version 2",
-        ),
-        (
-            Place::Of(2, 8_200, LOG),
-            Place::Blank,
-            Err(Refusal::BadGeometry),
-            "another device's",
-        ),
-        (
-            Place::Blank,
-            Place::Of(1, 8_200, LOG),
-            Err(Refusal::BadGeometry),
-            "another device's",
-        ),
-        (
-            Place::Of(4, SECTORS, LOG),
-            Place::Blank,
-            Err(Refusal::BadManifest),
-            "another manifest",
-        ),
-        (
-            Place::Blank,
-            Place::Of(3, SECTORS, LOG),
-            Err(Refusal::BadManifest),
-            "another manifest",
-        ),
-    ] {
-        assert!(rt; loaded(&rt, rt.alloc(), even, odd) == answer, "{what}");
+    for (even, odd, answer, what) in SUPERBLOCKS {
+        assert!(rt; loaded(&rt, rt.alloc(), *even, *odd) == *answer, "{what}");
     }
 }
 

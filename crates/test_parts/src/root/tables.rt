@@ -31,8 +31,19 @@ fn the_largest_manifest_is_found_again(rt: HostRuntime) {
     assert!(rt; is_found_again(&rt, rt.alloc()));
 }
 
+/// Whether the new root is left by an install that ends with so many writes and syncs, of which a crash keeps the first that pends or
+/// not. The sixth is the sync after the manifest's five sectors. Behind it the superblock's write alone pends.
+fn is_new(fuse: u64, keeps_first: bool) -> bool {
+    fuse == 8 || (fuse >= 6 && keeps_first)
+}
+
+/// The first byte of a sector that pended before: it is kept where a mask keeps it or a sync was made.
+fn byte_behind(fuse: u64, keeps_first: bool) -> u8 {
+    if fuse >= 6 || keeps_first { 0xff } else { 0 }
+}
+
 /// Whether the old root is left, or the new one where it must be, after an install that ends with so many writes and syncs and
-/// a crash under the mask; and a sector behind them that pended before, where a mask keeps it or a sync was made.
+/// a crash under the mask; and a sector behind them that pended before.
 fn are_apart<R: Abort>(
     rt: &R,
     alloc: Global,
@@ -41,18 +52,24 @@ fn are_apart<R: Abort>(
     mask: &[bool],
 ) -> bool {
     let mut device = Quiet::new(rt, alloc, 8_192);
-    let stands = is_installed(alloc, &mut device, LOG, old) && device.put(130, &[0xff; 512]);
+    let stands = is_installed(alloc, &mut device, LOG, old);
+    let pends = device.put(130, &[0xff; 512]);
     device.fuse(fuse);
     let is_made = is_installed(alloc, &mut device, LOG, new);
     let mut left = device.crash(mask);
     let keeps_first = mask.first() == Some(&true);
-    // The sixth of them is the sync after the manifest's five sectors. Behind it the superblock's write alone pends.
-    let is_new = fuse == 8 || fuse >= 6 && keeps_first;
-    let behind = if fuse >= 6 || keeps_first { 0xff } else { 0 };
-    stands
-        && is_made == (fuse == 8)
-        && left.sector(130)[0] == behind
-        && is_found(alloc, &mut left, if is_new { new } else { old })
+    let is_kept = left.sector(130)[0] == byte_behind(fuse, keeps_first);
+    let is_there = is_found(
+        alloc,
+        &mut left,
+        one_of(old, new, is_new(fuse, keeps_first)),
+    );
+    stands && pends && is_made == (fuse == 8) && is_kept && is_there
+}
+
+/// The new one of two, or the old one.
+fn one_of<'m>(old: &'m Manifest, new: &'m Manifest, is_new: bool) -> &'m Manifest {
+    if is_new { new } else { old }
 }
 
 #[test]

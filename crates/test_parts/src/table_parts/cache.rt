@@ -3,7 +3,8 @@
 use crate::table_parts::blocks::{device, gives, reads_for};
 use linked_list_allocator::LocalHeap;
 use lsm_cache::Cache;
-use std::alloc::Global;
+use lsm_device::MemDevice;
+use std::alloc::{Allocator, Global};
 use std::process::Abort;
 
 /// Whether a cache of so many blocks gives each block by so many reads, and is refused no memory.
@@ -48,14 +49,23 @@ fn each_read_faults_in_turn(rt: HostRuntime) {
     }
 }
 
+/// Whether six blocks are given, each by eight reads or out of the cache.
+fn are_given<A: Allocator + Clone>(cache: &mut Cache<A>, device: &mut MemDevice) -> bool {
+    const ASKS: &[u8] = &[1, 2, 1, 3, 2, 2];
+    for &block in ASKS {
+        if !matches!(reads_for(cache, device, block), Some(0 | 8)) {
+            return false;
+        }
+    }
+    true
+}
+
 /// How many blocks are not kept of six that are asked for, where a heap of so many bytes has memory for the cache.
 fn refusals_in<R: Abort>(rt: &R, alloc: Global, bytes: usize) -> Option<u64> {
     let mut device = device(rt, alloc);
     let heap = LocalHeap::new(alloc, bytes).expect(rt, "a heap");
     let mut cache = Cache::new(&heap, 2).ok()?;
-    for block in [1, 2, 1, 3, 2, 2] {
-        assert!(rt; matches!(reads_for(&mut cache, &mut device, block), Some(0 | 8)));
-    }
+    assert!(rt; are_given(&mut cache, &mut device));
     Some(cache.refusals())
 }
 
