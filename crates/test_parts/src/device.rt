@@ -1,5 +1,6 @@
 //! Tests of the devices, and of images.
 
+mod calls;
 mod file;
 mod images;
 mod memory;

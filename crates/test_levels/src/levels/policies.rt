@@ -5,6 +5,8 @@ use crate::slots::Slots;
 use crate::tables::{Put, levels_of};
 use lsm_levels::{Choice, Levels};
 use lsm_policy::Policy;
+use std::alloc::Global;
+use std::process::Abort;
 
 /// What is advised: nothing, so many of the oldest runs, or the tables from one to another.
 #[derive(Clone, Copy)]
@@ -118,6 +120,59 @@ fn advice_on_small_levels(rt: HostRuntime) {
         for case in cases {
             assert!(rt; is_advised(&levels, *case), "{deeper:?} {}", case.0);
         }
+    }
+}
+
+/// Eight runs of a table each.
+const EIGHT_RUNS: &[&[Put]] = &[
+    &[(2, 0x61)],
+    &[(3, 0x62)],
+    &[(4, 0x63)],
+    &[(5, 0x64)],
+    &[(6, 0x65)],
+    &[(7, 0x66)],
+    &[(8, 0x67)],
+    &[(9, 0x68)],
+];
+
+/// What is advised where level 0 has so many runs of a table each, and level 1 so many tables. Each table has four blocks, and there is
+/// room for all.
+fn advised<R: Abort>(rt: &R, alloc: Global, runs: usize, tables: u8) -> Option<Choice> {
+    let mut level_1 = Vec::new(alloc);
+    for key in 0..tables {
+        level_1
+            .push((u32::from(key) + 10, key))
+            .expect(rt, "memory");
+    }
+    let runs = EIGHT_RUNS.get(..runs).unwrap_or(EIGHT_RUNS);
+    let levels = levels_of(rt, alloc, runs, &[level_1.as_slice()]);
+    Policy::new().next_choice(&levels, 5_000, &Slots::Free)
+}
+
+#[test]
+fn small_runs_wait_until_they_are_a_quarter_of_level_1_or_eight(rt: HostRuntime) {
+    // How many runs, how many tables of level 1, and whether all runs go.
+    const CASES: &[(usize, u8, bool)] = &[
+        (2, 0, false),
+        (3, 0, true),
+        (3, 12, true),
+        (3, 13, false),
+        (7, 28, true),
+        (7, 29, false),
+        (8, 32, true),
+        (8, 33, true),
+        (8, 60, true),
+    ];
+    for &(runs, tables, go) in CASES {
+        let wanted = if go {
+            Some(Choice::OldestRuns { count: runs })
+        } else {
+            None
+        };
+        assert!(rt;
+            advised(&rt, rt.alloc(), runs, tables) == wanted,
+            "{runs} {tables}"
+        );
     }
 }
 
