@@ -94,8 +94,9 @@ impl Policy {
     /// The merge to choose next, with `free_blocks` blocks free and the slots held by these jobs: the first of these that exists,
     /// may be taken, and takes in no more blocks than are free.
     ///
-    /// 1. From [`runs`](Policy::runs) on, or from three on if they are large, all runs of level 0; or the most of the oldest ones that take in no more blocks than are
-    ///    free, nor, if they are several, than [`most_blocks`](Policy::most_blocks).
+    /// 1. From [`runs`](Policy::runs) on, or from three on if they have a quarter of the blocks of level 1, all runs of level 0; or the
+    ///    most of the oldest ones that take in no more blocks than are free, nor, if they are several, than
+    ///    [`most_blocks`](Policy::most_blocks).
     /// 2. Of the least level from 1 to 3 that is over its limit: the neighbours that go down for the fewest blocks of the next level
     ///    a block of their own. If room is scarce those with the oldest table. Of equal ones the widest. Several tables go only where
     ///    no other merge is held.

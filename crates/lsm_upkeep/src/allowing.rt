@@ -97,7 +97,7 @@ impl Grant {
         })
     }
 
-    // Whether it covers what is demanded of a store that is asked so.
+    // Whether it covers what is demanded of a store with this basis.
     fn covers(&self, basis: Basis, demand: &Demand) -> bool
         ensures { result ≡ true
             → FlushesLeave 100 basis.free_blocks basis.live demand.now.memory.waiting
