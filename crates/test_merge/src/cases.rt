@@ -9,17 +9,25 @@ use std::process::Abort;
 /// A version of a key of one byte: the key, the number, and the value's byte, or none.
 pub type Row = (u8, u64, Option<u8>);
 
-/// One version each of eight keys.
-pub const EIGHT: [Row; 8] = [
-    (0x61, 1, Some(1)),
-    (0x62, 1, Some(2)),
-    (0x63, 1, Some(3)),
-    (0x64, 1, Some(4)),
-    (0x65, 1, Some(5)),
-    (0x66, 1, Some(6)),
-    (0x67, 1, Some(7)),
-    (0x68, 1, Some(8)),
-];
+/// One version each of eight keys, which are the letters from a to h.
+pub const ROW_A: Row = (0x61, 1, Some(1));
+
+pub const ROW_B: Row = (0x62, 1, Some(2));
+
+pub const ROW_C: Row = (0x63, 1, Some(3));
+
+pub const ROW_D: Row = (0x64, 1, Some(4));
+
+pub const ROW_E: Row = (0x65, 1, Some(5));
+
+pub const ROW_F: Row = (0x66, 1, Some(6));
+
+pub const ROW_G: Row = (0x67, 1, Some(7));
+
+pub const ROW_H: Row = (0x68, 1, Some(8));
+
+/// All of them.
+pub const EIGHT: [Row; 8] = [ROW_A, ROW_B, ROW_C, ROW_D, ROW_E, ROW_F, ROW_G, ROW_H];
 
 /// A delete of a key.
 pub const NEWER: [Row; 1] = [(0x61, 9, None)];

@@ -1,7 +1,9 @@
 //! Merges that are divided at keys.
 
 use crate::budget::Budget;
-use crate::cases::{EIGHT, NEWER, OLDER, Row, input};
+use crate::cases::{
+    EIGHT, NEWER, OLDER, ROW_A, ROW_B, ROW_C, ROW_D, ROW_E, ROW_F, ROW_G, ROW_H, Row, input,
+};
 use crate::input::key;
 use crate::threads::{Lent, is_same_image, large};
 use lsm_codec::Key;
@@ -69,7 +71,8 @@ fn divides<R: Abort + Threads + Sync>(
     parts: &[&[Row]],
 ) -> bool {
     let input = shared(rt, alloc, input(rt, alloc, &[&EIGHT], &[1], true));
-    for count in [1, 3, 8] {
+    const COUNTS: &[u8] = &[1, 3, 8];
+    for &count in COUNTS {
         let shared = input.clone().expect(rt, "memory");
         let divisions = keys_of(rt, alloc, keys);
         let built = build_divided(rt, alloc, shared, count, divisions).expect(rt, "memory");
@@ -83,28 +86,52 @@ fn divides<R: Abort + Threads + Sync>(
 
 #[test]
 fn each_part_has_tables_of_its_own(rt: HostRuntime) {
-    for (keys, parts) in [
+    const CASES: &[(&[&[u8]], &[&[Row]])] = &[
         (
-            [b"d".as_slice()].as_slice(),
-            [&EIGHT[..3], &EIGHT[3..]].as_slice(),
+            &[b"d"],
+            &[&[ROW_A, ROW_B, ROW_C], &[ROW_D, ROW_E, ROW_F, ROW_G, ROW_H]],
         ),
         (&[], &[&EIGHT]),
         // Before the first key, at it, at the last and behind it.
         (&[b"0"], &[&EIGHT]),
         (&[b"a"], &[&EIGHT]),
-        (&[b"h"], &[&EIGHT[..7], &EIGHT[7..]]),
+        (
+            &[b"h"],
+            &[&[ROW_A, ROW_B, ROW_C, ROW_D, ROW_E, ROW_F, ROW_G], &[ROW_H]],
+        ),
         (&[b"i"], &[&EIGHT]),
         // A key that is none of them.
-        (&[b"c0"], &[&EIGHT[..3], &EIGHT[3..]]),
+        (
+            &[b"c0"],
+            &[&[ROW_A, ROW_B, ROW_C], &[ROW_D, ROW_E, ROW_F, ROW_G, ROW_H]],
+        ),
         // Two keys that ascend, are equal, and descend.
-        (&[b"c", b"f"], &[&EIGHT[..2], &EIGHT[2..5], &EIGHT[5..]]),
-        (&[b"c", b"c"], &[&EIGHT[..2], &EIGHT[2..]]),
-        (&[b"f", b"c"], &[&EIGHT[..5], &EIGHT[5..]]),
+        (
+            &[b"c", b"f"],
+            &[
+                &[ROW_A, ROW_B],
+                &[ROW_C, ROW_D, ROW_E],
+                &[ROW_F, ROW_G, ROW_H],
+            ],
+        ),
+        (
+            &[b"c", b"c"],
+            &[&[ROW_A, ROW_B], &[ROW_C, ROW_D, ROW_E, ROW_F, ROW_G, ROW_H]],
+        ),
+        (
+            &[b"f", b"c"],
+            &[&[ROW_A, ROW_B, ROW_C, ROW_D, ROW_E], &[ROW_F, ROW_G, ROW_H]],
+        ),
         (
             &[b"f", b"c", b"g"],
-            &[&EIGHT[..5], &EIGHT[5..6], &EIGHT[6..]],
+            &[
+                &[ROW_A, ROW_B, ROW_C, ROW_D, ROW_E],
+                &[ROW_F],
+                &[ROW_G, ROW_H],
+            ],
         ),
-    ] {
+    ];
+    for &(keys, parts) in CASES {
         assert!(rt; divides(&rt, rt.alloc(), keys, parts), "{keys:?}");
     }
 }
@@ -124,12 +151,13 @@ fn has_blocks(built: &Built, blocks: &[usize]) -> bool {
 fn a_part_has_as_many_tables_as_it_needs(rt: HostRuntime) {
     // Each of 70 entries takes a data block, and a table has 64 at most.
     let alloc = rt.alloc();
-    for (keys, blocks) in [
-        ([].as_slice(), [64, 6].as_slice()),
-        (&[[3].as_slice()], &[3, 64, 3]),
+    const CASES: &[(&[&[u8]], &[usize])] = &[
+        (&[], &[64, 6]),
+        (&[&[3]], &[3, 64, 3]),
         (&[&[6]], &[6, 64]),
         (&[&[35]], &[35, 35]),
-    ] {
+    ];
+    for &(keys, blocks) in CASES {
         let input = shared(&rt, alloc, large(&rt, alloc));
         let built = build_here(alloc, input, keys_of(&rt, alloc, keys)).expect(&rt, "memory");
         assert!(rt; has_blocks(&built, blocks), "{keys:?}");
@@ -194,7 +222,8 @@ fn each_growth_of_a_merge_by_the_caller_is_refused_in_turn(rt: HostRuntime) {
 #[test]
 fn a_divided_merge_has_one_to_eight_parts(rt: HostRuntime) {
     let alloc = rt.alloc();
-    for parts in [0, 9, 255] {
+    const PARTS: &[u8] = &[0, 9, 255];
+    for &parts in PARTS {
         let input = shared(&rt, alloc, input(&rt, alloc, &[&EIGHT], &[1], true));
         let keys = keys_of(&rt, alloc, &[b"d"]);
         let refusal = build_divided(&rt, alloc, input, parts, keys).err();

@@ -72,7 +72,8 @@ fn kept<R: Abort + Threads + Sync>(rt: &R, alloc: Global, parts: u8) -> (Option<
 #[test]
 fn a_merge_keeps_120000_keys(rt: HostRuntime) {
     // A table has 3,200 of them at most.
-    for parts in [1, 4] {
+    const PARTS: &[u8] = &[1, 4];
+    for &parts in PARTS {
         let kept = kept(&rt, rt.alloc(), parts);
         assert!(rt; kept == (Some(120_000), 38), "{parts}: {kept:?}");
     }

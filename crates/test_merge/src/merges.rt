@@ -1,6 +1,8 @@
 //! What merges keep, and where they are cut.
 
-use crate::cases::{EIGHT, NEWER, OLDER, Row, input};
+use crate::cases::{
+    EIGHT, NEWER, OLDER, ROW_A, ROW_B, ROW_C, ROW_D, ROW_E, ROW_F, ROW_G, ROW_H, Row, input,
+};
 use lsm_codec::Entry;
 use lsm_merge::{borders, part};
 use std::alloc::Global;
@@ -37,15 +39,16 @@ fn keeps<R: Abort>(
 #[test]
 fn a_delete_over_a_put(rt: HostRuntime) {
     let runs: [&[Row]; 2] = [&NEWER, &OLDER];
-    let both = [(0x61, 9, None), (0x61, 4, Some(0x31))];
-    for (cuts, bottom, kept) in [
-        ([9].as_slice(), false, NEWER.as_slice()),
+    const BOTH: &[Row] = &[(0x61, 9, None), (0x61, 4, Some(0x31))];
+    const CASES: &[(&[u64], bool, &[Row])] = &[
+        (&[9], false, &NEWER),
         (&[9], true, &[]),
-        (&[4, 9], true, &both),
-        (&[4, 9], false, &both),
+        (&[4, 9], true, BOTH),
+        (&[4, 9], false, BOTH),
         (&[4], true, &OLDER),
         (&[3], false, &[]),
-    ] {
+    ];
+    for &(cuts, bottom, kept) in CASES {
         assert!(rt; keeps(&rt, rt.alloc(), (&runs, cuts, bottom), (None, None), kept));
     }
     // Of one key and number the newer run counts.
@@ -56,17 +59,14 @@ fn a_delete_over_a_put(rt: HostRuntime) {
 
 #[test]
 fn ranges_of_eight_keys(rt: HostRuntime) {
-    for (from, to, rows) in [
-        (None, None, EIGHT.as_slice()),
-        (
-            Some([0x62].as_slice()),
-            Some([0x64].as_slice()),
-            &EIGHT[1..3],
-        ),
-        (Some(&[0x67]), None, &EIGHT[6..]),
+    const CASES: &[(Option<&[u8]>, Option<&[u8]>, &[Row])] = &[
+        (None, None, &EIGHT),
+        (Some(&[0x62]), Some(&[0x64]), &[ROW_B, ROW_C]),
+        (Some(&[0x67]), None, &[ROW_G, ROW_H]),
         (None, Some(&[0x61]), &[]),
         (Some(&[0x69]), None, &[]),
-    ] {
+    ];
+    for &(from, to, rows) in CASES {
         let eight = [EIGHT.as_slice()];
         assert!(rt; keeps(&rt, rt.alloc(), (&eight, &[1], true), (from, to), rows));
     }
@@ -97,19 +97,24 @@ fn is_cut_at<R: Abort>(rt: &R, alloc: Global, runs: &[&[Row]], parts: u8, keys: 
 
 #[test]
 fn borders_of_runs(rt: HostRuntime) {
-    for (runs, parts, keys) in [
-        (
-            [EIGHT.as_slice()].as_slice(),
-            4,
-            [0x63, 0x65, 0x67].as_slice(),
-        ),
-        (&[&EIGHT[..3]], 8, &[0x61, 0x62, 0x63]),
+    const CASES: &[(&[&[Row]], u8, &[u8])] = &[
+        (&[&EIGHT], 4, &[0x63, 0x65, 0x67]),
+        (&[&[ROW_A, ROW_B, ROW_C]], 8, &[0x61, 0x62, 0x63]),
         (&[&VERSIONS], 4, &[0x61]),
         (&[&EIGHT], 1, &[]),
         (&[&[]], 8, &[]),
         // The first of the longest is cut.
-        (&[&EIGHT[..1], &EIGHT[..4], &EIGHT[4..]], 2, &[0x63]),
-    ] {
+        (
+            &[
+                &[ROW_A],
+                &[ROW_A, ROW_B, ROW_C, ROW_D],
+                &[ROW_E, ROW_F, ROW_G, ROW_H],
+            ],
+            2,
+            &[0x63],
+        ),
+    ];
+    for &(runs, parts, keys) in CASES {
         assert!(rt; is_cut_at(&rt, rt.alloc(), runs, parts, keys));
     }
 }

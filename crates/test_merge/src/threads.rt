@@ -80,7 +80,8 @@ fn gives_the_same<R: Abort + Threads + Sync>(
 fn any_number_of_parts_gives_the_same_bytes(rt: HostRuntime) {
     let alloc = rt.alloc();
     let runs: [&[Row]; 2] = [&NEWER, &OLDER];
-    for (cuts, count) in [([4, 9].as_slice(), 1), (&[9], 0)] {
+    const CASES: &[(&[u64], usize)] = &[(&[4, 9], 1), (&[9], 0)];
+    for &(cuts, count) in CASES {
         assert!(rt; gives_the_same(&rt, alloc, input(&rt, alloc, &runs, cuts, true), count));
     }
     assert!(rt; gives_the_same(&rt, alloc, large(&rt, alloc), 2));
@@ -153,7 +154,8 @@ fn gathers<R: Abort + Threads + Sync>(rt: &R, heap: Lent<'_>, parts: u8) -> bool
 #[test]
 fn a_merge_is_built_by_a_thread_for_each_part(rt: HostRuntime) {
     let heap = Budget::new(rt.alloc(), 1_000_000);
-    for parts in [2, 3, 8] {
+    const PARTS: &[u8] = &[2, 3, 8];
+    for &parts in PARTS {
         assert!(rt; gathers(&rt, &heap, parts), "{parts}");
     }
 }
@@ -201,7 +203,8 @@ fn count_built<R: Abort + Threads + Sync>(rt: &R, heap: Lent<'_>, parts: u8) -> 
 #[test]
 fn each_growth_of_a_merge_on_threads_is_refused_in_turn(rt: HostRuntime) {
     let heap = Budget::new(rt.alloc(), 1_000_000);
-    for parts in [1, 2, 4] {
+    const PARTS: &[u8] = &[1, 2, 4];
+    for &parts in PARTS {
         let count = count_built(&rt, &heap, parts);
         assert!(rt; count > 10 && count < 130, "{count}");
     }
