@@ -94,11 +94,11 @@ fn measure<R: Files<File = File> + Clock + Threads + Wait + Print + Eprint + All
     match what.as_str() {
         "merges" => time_merges(rt)?,
         "answers" => return check(rt),
-        "upkeep" => return measure_named(rt, words, &KEPT, true),
-        "gets" => return measure_named(rt, words, &LOOKS, true),
-        "rounds" => return measure_named(rt, words, &ROUNDS, false),
-        "workers" => return measure_named(rt, words, &BESIDE, true),
-        file => return compare(rt, file, FULL, &WORKLOADS, number(words, 1, RUNS)?),
+        "upkeep" => return measure_named(rt, words, KEPT, true),
+        "gets" => return measure_named(rt, words, LOOKS, true),
+        "rounds" => return measure_named(rt, words, ROUNDS, false),
+        "workers" => return measure_named(rt, words, BESIDE, true),
+        file => return compare(rt, file, FULL, WORKLOADS, number(words, 1, RUNS)?),
     }
     Ok(true)
 }

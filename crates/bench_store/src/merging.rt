@@ -31,7 +31,8 @@ fn run_of(alloc: Global, number: u64, first: u32) -> Result<Vec<Entry>, Refusal>
 /// Four runs, in two of which every second key stands.
 fn input(alloc: Global) -> Result<Input, Refusal> {
     let mut runs = Vec::new(alloc);
-    for (number, first) in [(4, 0), (3, 1), (2, 0), (1, 1)] {
+    const RUNS: &[(u64, u32)] = &[(4, 0), (3, 1), (2, 0), (1, 1)];
+    for &(number, first) in RUNS {
         runs.push(run_of(alloc, number, first)?)?;
     }
     let cuts = Vec::from_slice(alloc, &[4])?;
@@ -55,7 +56,8 @@ pub(crate) fn time_merges<R: Threads + Clock + Print + Eprint + AllocGlobal + Sy
     rt: &R,
 ) -> Result<()> {
     let input = Arc::new(rt.alloc(), input(rt.alloc()).map_err(told)?)?;
-    for parts in [1, 2, 4] {
+    const PARTS: &[u8] = &[1, 2, 4];
+    for &parts in PARTS {
         let (images, nanos) = merged(rt, rt.alloc(), &input, parts).map_err(told)?;
         let rate = u64::from(ENTRIES).wrapping_mul(4_000_000_000) / nanos.max(1);
         eprintln!(rt; "parts {parts}: {rate} entries a second, {images} images")?;

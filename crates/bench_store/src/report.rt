@@ -36,7 +36,7 @@ enum Figure {
 }
 
 /// The table of rates and ratios.
-const RATES: [(&str, Figure); 5] = [
+const RATES: &[(&str, Figure)] = &[
     ("operations", Figure::Operations),
     ("store ops/s", Figure::StoreRate),
     ("raw ops/s", Figure::RawRate),
@@ -45,7 +45,7 @@ const RATES: [(&str, Figure); 5] = [
 ];
 
 /// The table of what loads wrote and kept, and how long puts and changes of rounds waited.
-const LOADS: [(&str, Figure); 4] = [
+const LOADS: &[(&str, Figure)] = &[
     ("wait us", Figure::Wait),
     ("blocks held", Figure::Held),
     ("table bytes", Figure::InTables),
@@ -191,9 +191,9 @@ pub(crate) fn report(
         samples,
         workloads,
         Figure::Operations,
-        &RATES,
+        RATES,
     )?;
     push_bars(alloc, &mut text, samples, workloads)?;
-    push_table(alloc, &mut text, samples, workloads, Figure::Wait, &LOADS)?;
+    push_table(alloc, &mut text, samples, workloads, Figure::Wait, LOADS)?;
     Ok(text)
 }

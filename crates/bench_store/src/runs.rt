@@ -67,13 +67,8 @@ pub(crate) fn check<R: Clock + Threads + Wait + Print + AllocGlobal + Sync>(
     rt: &R,
 ) -> Result<bool> {
     let mut right = true;
-    for workloads in [
-        &WORKLOADS[..],
-        &KEPT[..],
-        &ROUNDS[..],
-        &LOOKS[..],
-        &BESIDE[..],
-    ] {
+    const ALL: &[&[Workload]] = &[WORKLOADS, KEPT, ROUNDS, LOOKS, BESIDE];
+    for &workloads in ALL {
         let mut samples = Vec::new(rt.alloc());
         run_small(rt, rt.alloc(), workloads, &mut samples).map_err(told)?;
         for (sample, workload) in samples.iter().zip(workloads) {

@@ -11,7 +11,7 @@ use std::thread::Threads;
 /// From this number of runs on, and above these numbers of blocks of levels 1 to 3, jobs come next.
 const RUNS: usize = 4;
 
-const LIMITS: [u32; 3] = [256, 2_048, 16_384];
+const LIMITS: &[u32] = &[256, 2_048, 16_384];
 
 /// More jobs than come one after another.
 const MOST_JOBS: u32 = 10_000;

@@ -104,7 +104,7 @@ const IN_MEMORY: Way = Way {
 };
 
 /// The workloads that are compared with raw calls. Each value that a workload puts says in which of them it was put.
-pub(crate) const WORKLOADS: [Workload; 18] = [
+pub(crate) const WORKLOADS: &[Workload] = &[
     Workload {
         name: "fill",
         work: Work::Commit(SINGLE),
@@ -225,7 +225,7 @@ pub(crate) const WORKLOADS: [Workload; 18] = [
 ];
 
 /// The workloads that count their rotations and jobs, by the job that comes next and by the policy. They have no aim.
-pub(crate) const KEPT: [Workload; 8] = [
+pub(crate) const KEPT: &[Workload] = &[
     Workload {
         name: "fill, next",
         work: Work::Keep {
@@ -309,7 +309,7 @@ pub(crate) const KEPT: [Workload; 8] = [
 ];
 
 /// Sessions whose trails are filled, and before them the load of what their clients ask for. They have no aim.
-pub(crate) const ROUNDS: [Workload; 3] = [
+pub(crate) const ROUNDS: &[Workload] = &[
     Workload {
         name: "load before rounds",
         work: Work::Keep {
@@ -335,7 +335,7 @@ pub(crate) const ROUNDS: [Workload; 3] = [
 ];
 
 /// A load, and reads of all that it put: blocks that are not in the cache, and those that are as far as it has room.
-pub(crate) const LOOKS: [Workload; 5] = [
+pub(crate) const LOOKS: &[Workload] = &[
     Workload {
         name: "load before reads",
         work: Work::Keep {
@@ -373,7 +373,7 @@ pub(crate) const LOOKS: [Workload; 5] = [
 ];
 
 /// The same fill without a worker and with one. They have no aim.
-pub(crate) const BESIDE: [Workload; 2] = [
+pub(crate) const BESIDE: &[Workload] = &[
     Workload {
         name: "fill, no worker",
         work: Work::Beside { has_worker: false },

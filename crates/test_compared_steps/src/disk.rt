@@ -17,16 +17,15 @@ pub type Mask = u64;
 const THIRDS: Mask = 0x5555_5555_5555_5555;
 
 /// The crashes that are tried: they keep none of the pending writes, all, the first, the third and so on, or the others.
-pub const MASKS: [Mask; 4] = [0, u64::MAX, THIRDS, !THIRDS];
+pub const MASKS: &[Mask] = &[0, u64::MAX, THIRDS, !THIRDS];
 
 /// The crash of a number: each of the four in turn.
 pub fn mask_of(n: u64) -> Mask {
-    let [none, all, even, odd] = MASKS;
     match n % 4 {
-        0 => none,
-        1 => all,
-        2 => even,
-        _ => odd,
+        0 => 0,
+        1 => u64::MAX,
+        2 => THIRDS,
+        _ => !THIRDS,
     }
 }
 

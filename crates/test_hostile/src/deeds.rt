@@ -7,7 +7,7 @@ use test_compared_steps::lists::ListedStep;
 use test_compared_steps::plain::{Change, Condition, Step, Value};
 
 /// One client, with a flush between its calls.
-const FLUSHED: [Deed; 24] = [
+const FLUSHED: &[Deed] = &[
     Deed::Turn(0),
     Deed::Call(0, ListedStep::Put(1)),
     Deed::Call(0, ListedStep::Long(2, 600)),
@@ -35,7 +35,7 @@ const FLUSHED: [Deed; 24] = [
 ];
 
 /// One client, with a merge, and a flush after it, and the rewrite of what was merged.
-const MERGED: [Deed; 20] = [
+const MERGED: &[Deed] = &[
     Deed::Turn(0),
     Deed::Call(0, ListedStep::Put(5)),
     Deed::Turn(0),
@@ -59,7 +59,7 @@ const MERGED: [Deed; 20] = [
 ];
 
 /// Two clients, with a flush and a merge side by side.
-const SIDE_BY_SIDE: [Deed; 18] = [
+const SIDE_BY_SIDE: &[Deed] = &[
     Deed::Call(0, ListedStep::Put(6)),
     Deed::Call(1, ListedStep::One(Step::Rotate)),
     Deed::Turn(0),
@@ -81,7 +81,7 @@ const SIDE_BY_SIDE: [Deed; 18] = [
 ];
 
 /// Four clients, each of which commits and syncs, until the trail has no place left. A choice without a job needs none.
-const FOUR: [Deed; 16] = [
+const FOUR: &[Deed] = &[
     Deed::Call(0, ListedStep::Put(1)),
     Deed::Call(1, ListedStep::Long(2, 600)),
     Deed::Call(1, ListedStep::One(Step::Sync)),
@@ -137,7 +137,7 @@ const LACKS_4: Condition = Condition {
 
 /// Commits under guards, with a flush between them, until the trail is full. Guards that hold read nothing: their keys are in memory, or
 /// outside of all tables. Those of keys in a table are false, or come before a false one.
-const GUARDED: [Deed; 15] = [
+const GUARDED: &[Deed] = &[
     Deed::Call(
         0,
         ListedStep::One(Step::CommitIf(HAS_2, LACKS_9, Change::Put(4, 4, 1))),
@@ -180,7 +180,7 @@ const GUARDED: [Deed; 15] = [
 ];
 
 /// A flush is taken, and both clients are handed out its input.
-const TAKEN_FOR_BOTH: [Deed; 3] = [
+const TAKEN_FOR_BOTH: &[Deed] = &[
     Deed::Call(0, ListedStep::Put(1)),
     Deed::Call(0, ListedStep::One(Step::Rotate)),
     Deed::Turn(0),
@@ -216,7 +216,7 @@ const ENDED_BEFORE: Late = Late {
 };
 
 /// Two clients take merges of their choice, until the trail is full. A choice without a job is no entry, there too.
-const CHOSEN: [Deed; 11] = [
+const CHOSEN: &[Deed] = &[
     Deed::Take(0, Choice::OldestRuns { count: 5 }),
     Deed::Take(0, Choice::OldestRuns { count: 2 }),
     Deed::Take(1, Choice::OldestRuns { count: 1 }),
@@ -231,7 +231,7 @@ const CHOSEN: [Deed; 11] = [
 ];
 
 /// The install of a flush is put off until a merge has made a place in level 0.
-const PUT_OFF: [Deed; 12] = [
+const PUT_OFF: &[Deed] = &[
     Deed::Call(0, ListedStep::Put(20)),
     Deed::Call(0, ListedStep::One(Step::Rotate)),
     Deed::Turn(0),
@@ -247,7 +247,7 @@ const PUT_OFF: [Deed; 12] = [
 ];
 
 /// The same, where the trail has a place for an install that is put off, and none for what comes after it.
-const PUT_OFF_AT_THE_END: [Deed; 7] = [
+const PUT_OFF_AT_THE_END: &[Deed] = &[
     Deed::Call(0, ListedStep::Put(20)),
     Deed::Call(0, ListedStep::One(Step::Rotate)),
     Deed::Turn(0),
@@ -258,7 +258,7 @@ const PUT_OFF_AT_THE_END: [Deed; 7] = [
 ];
 
 /// The sessions.
-pub(crate) const SITTINGS: [Sitting; 10] = [
+pub(crate) const SITTINGS: &[Sitting] = &[
     Sitting {
         name: "a session with a flush",
         past: &[],
@@ -266,47 +266,47 @@ pub(crate) const SITTINGS: [Sitting; 10] = [
             clients: 1,
             places: 64,
         },
-        deeds: &FLUSHED,
+        deeds: FLUSHED,
         late: None,
     },
     Sitting {
         name: "a session with a merge",
-        past: &FOUR_RUNS,
+        past: FOUR_RUNS,
         sizes: Sizes {
             clients: 1,
             places: 64,
         },
-        deeds: &MERGED,
+        deeds: MERGED,
         late: None,
     },
     Sitting {
         name: "a session with a flush and a merge",
-        past: &FOUR_RUNS,
+        past: FOUR_RUNS,
         sizes: Sizes {
             clients: 2,
             places: 64,
         },
-        deeds: &SIDE_BY_SIDE,
+        deeds: SIDE_BY_SIDE,
         late: None,
     },
     Sitting {
         name: "a session of four clients",
-        past: &BATCHES,
+        past: BATCHES,
         sizes: Sizes {
             clients: 4,
             places: 11,
         },
-        deeds: &FOUR,
+        deeds: FOUR,
         late: None,
     },
     Sitting {
         name: "a session with guards",
-        past: &BATCHES,
+        past: BATCHES,
         sizes: Sizes {
             clients: 1,
             places: 15,
         },
-        deeds: &GUARDED,
+        deeds: GUARDED,
         late: None,
     },
     Sitting {
@@ -316,7 +316,7 @@ pub(crate) const SITTINGS: [Sitting; 10] = [
             clients: 2,
             places: 64,
         },
-        deeds: &TAKEN_FOR_BOTH,
+        deeds: TAKEN_FOR_BOTH,
         late: Some(BROUGHT_BEFORE),
     },
     Sitting {
@@ -326,37 +326,37 @@ pub(crate) const SITTINGS: [Sitting; 10] = [
             clients: 2,
             places: 64,
         },
-        deeds: &TAKEN_FOR_BOTH,
+        deeds: TAKEN_FOR_BOTH,
         late: Some(ENDED_BEFORE),
     },
     Sitting {
         name: "jobs that clients choose",
-        past: &FOUR_RUNS,
+        past: FOUR_RUNS,
         sizes: Sizes {
             clients: 2,
             places: 8,
         },
-        deeds: &CHOSEN,
+        deeds: CHOSEN,
         late: None,
     },
     Sitting {
         name: "an install that is put off",
-        past: &TWELVE_RUNS,
+        past: TWELVE_RUNS,
         sizes: Sizes {
             clients: 1,
             places: 64,
         },
-        deeds: &PUT_OFF,
+        deeds: PUT_OFF,
         late: None,
     },
     Sitting {
         name: "an install that is put off at the end of a trail",
-        past: &TWELVE_RUNS,
+        past: TWELVE_RUNS,
         sizes: Sizes {
             clients: 1,
             places: 7,
         },
-        deeds: &PUT_OFF_AT_THE_END,
+        deeds: PUT_OFF_AT_THE_END,
         late: None,
     },
 ];

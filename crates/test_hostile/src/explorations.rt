@@ -19,10 +19,10 @@ use test_merge::budget::Budget;
 const MOST: u64 = 1_000_000;
 
 /// A batch of one sector, and one of two.
-const BATCHES: [ListedStep; 2] = [ListedStep::Put(1), ListedStep::Long(2, 600)];
+const BATCHES: &[ListedStep] = &[ListedStep::Put(1), ListedStep::Long(2, 600)];
 
 /// A batch that is synced.
-const SYNCED: [ListedStep; 2] = [ListedStep::Put(1), ListedStep::One(Step::Sync)];
+const SYNCED: &[ListedStep] = &[ListedStep::Put(1), ListedStep::One(Step::Sync)];
 
 /// What is explored: steps, whether the openings of what is left are explored too, and of how many growths one is refused: a
 /// prime number, since all openings of an exploration ask for the same growths, and each of these is to be met.
@@ -35,16 +35,16 @@ pub(crate) struct Tour {
 }
 
 /// The explorations.
-pub(crate) const TOURS: [Tour; 2] = [
+pub(crate) const TOURS: &[Tour] = &[
     Tour {
         name: "an exploration of two batches",
-        list: &BATCHES,
+        list: BATCHES,
         twice: false,
         every: 11,
     },
     Tour {
         name: "an exploration of a synced batch, and of the openings behind it",
-        list: &SYNCED,
+        list: SYNCED,
         twice: true,
         every: 71,
     },

@@ -149,11 +149,11 @@ fn attack_at<R: Threads + Sync>(
     (n, extent): (u64, Extent),
     tally: &mut Tally,
 ) -> Result<bool, Trouble> {
-    let [none, all, even, odd] = MASKS;
+    const KEPT: &[bool] = &[false, true];
     let mut met = false;
-    for (turn, mask) in [(0, none), (1, all), (2, even), (3, odd)] {
-        for kept in [false, true] {
-            if extent.takes(n, turn, 4) {
+    for (turn, &mask) in MASKS.iter().enumerate() {
+        for &kept in KEPT {
+            if extent.takes(n, turn as u64, 4) {
                 met = attack(rt, alloc, attacked, CallFault { n, kept, mask })?;
                 tally.count_case();
                 tally.count_failed(met);

@@ -342,8 +342,8 @@ fn to_change<R: Threads + Sync>(
     };
     Ok(Tried {
         image,
-        calls: steps_of(alloc, &CALLS)?,
-        work: steps_of(alloc, &WORK)?,
+        calls: steps_of(alloc, CALLS)?,
+        work: steps_of(alloc, WORK)?,
     })
 }
 
@@ -355,16 +355,17 @@ pub(crate) fn sweep_bytes<R: Threads + Sync>(
     (every, firsts): (u64, bool),
     tally: &mut Tally,
 ) -> Result<(), Trouble> {
-    let tried = to_change(rt, alloc, &ONE_KEY)?;
+    let tried = to_change(rt, alloc, ONE_KEY)?;
     let heap = LocalHeap::new(alloc, MEMORY)?;
     let mut share = Share {
         every,
         next: 0,
         firsts,
     };
-    for at in [0, 1, manifest_of(&tried.image)] {
-        try_sector(alloc, &heap, &tried, at, &mut share, tally)?;
-    }
+    let manifest = manifest_of(&tried.image);
+    try_sector(alloc, &heap, &tried, 0, &mut share, tally)?;
+    try_sector(alloc, &heap, &tried, 1, &mut share, tally)?;
+    try_sector(alloc, &heap, &tried, manifest, &mut share, tally)?;
     for sector in 0..TABLE_SECTORS {
         let at = TABLE.wrapping_add(sector);
         try_sector(alloc, &heap, &tried, at, &mut share, tally)?;
@@ -393,7 +394,7 @@ pub(crate) fn sweep_drawn<R: Threads + Sync>(
     images: u64,
     tally: &mut Tally,
 ) -> Result<(), Trouble> {
-    let tried = to_change(rt, alloc, &MANY_TABLES)?;
+    let tried = to_change(rt, alloc, MANY_TABLES)?;
     let heap = LocalHeap::new(alloc, MEMORY)?;
     let mut draws = Draws::new(0);
     for number in 0..images {

@@ -124,6 +124,9 @@ fn attack<R: Threads + Sync>(
     attack_in(rt, &heap, attacked, growth)
 }
 
+/// Whether a step is made again.
+const AGAIN: &[bool] = &[false, true];
+
 /// Refuses each growth of a list in turn; the step is made again, or not.
 fn attack_all<R: Threads + Sync>(
     rt: &R,
@@ -135,7 +138,7 @@ fn attack_all<R: Threads + Sync>(
     for turn in 0..MOST {
         let n = turn.wrapping_mul(extent.every);
         let mut met = false;
-        for again in [false, true] {
+        for &again in AGAIN {
             met = attack(rt, alloc, attacked, Growth { n, again })?;
             tally.count_case();
             tally.count_refused(met);

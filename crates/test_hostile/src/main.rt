@@ -22,7 +22,7 @@ mod sweeps;
 mod tally;
 
 use crate::filling::fill;
-use crate::sweeps::{Extent, sweep_all, sweep_one};
+use crate::sweeps::{Extent, Found, sweep_all, sweep_one};
 use crate::tally::Tally;
 use anyhow::Result;
 use std::env;
@@ -39,6 +39,38 @@ fn number(words: &[String], place: usize) -> Result<Option<u64>> {
         Some(word) => Ok(Some(word.parse::<u64>()?)),
         None => Ok(None),
     }
+}
+
+/// Tells on standard error how much was tried of something.
+fn tell<R: Eprint>(rt: &R, what: &str, tally: &Tally) -> Result<()> {
+    let Tally {
+        cases,
+        failed,
+        refused,
+        openings,
+        tables: _,
+    } = tally;
+    eprintln!(rt;
+        "{what}: {cases} cases, {failed} calls failed, {refused} growths refused, {openings} openings"
+    )?;
+    Ok(())
+}
+
+/// Tells on standard error what was tried, and each first difference.
+fn tell_all<R: Eprint>(rt: &R, found: &Found) -> Result<()> {
+    tell(rt, "one call fails", &found.faults)?;
+    tell(rt, "one growth is refused", &found.growths)?;
+    tell(rt, "openings and checks", &found.openings)?;
+    tell(rt, "sessions", &found.sessions)?;
+    tell(rt, "replays and explorations", &found.replays)?;
+    tell(rt, "foreign images", &found.images)?;
+    tell(rt, "random lives", &found.lives)?;
+    tell(rt, "old images", &found.old_images)?;
+    tell(rt, "lives of a front door", &found.front_doors)?;
+    for difference in found.differences.iter() {
+        eprintln!(rt; "{difference:?}")?;
+    }
+    Ok(())
 }
 
 /// Tries the part of all cases that the words say, or that of one list, and tells whether there was no difference.
@@ -60,31 +92,7 @@ fn sweep<R: Threads + Wait + Print + Eprint + AllocGlobal + Sync>(
     let Ok(found) = swept else {
         return Ok(false);
     };
-    for (what, tally) in [
-        ("one call fails", found.faults),
-        ("one growth is refused", found.growths),
-        ("openings and checks", found.openings),
-        ("sessions", found.sessions),
-        ("replays and explorations", found.replays),
-        ("foreign images", found.images),
-        ("random lives", found.lives),
-        ("old images", found.old_images),
-        ("lives of a front door", found.front_doors),
-    ] {
-        let Tally {
-            cases,
-            failed,
-            refused,
-            openings,
-            tables: _,
-        } = tally;
-        eprintln!(rt;
-            "{what}: {cases} cases, {failed} calls failed, {refused} growths refused, {openings} openings"
-        )?;
-    }
-    for difference in found.differences.iter() {
-        eprintln!(rt; "{difference:?}")?;
-    }
+    tell_all(rt, &found)?;
     let differences = found.differences.len();
     println!(rt; "{}: {differences} differences", found.told())?;
     Ok(differences == 0)

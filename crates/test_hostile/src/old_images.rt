@@ -50,7 +50,7 @@ fn left(alloc: Global, beginning: &Beginning, disk: &mut Disk) -> Result<Beginni
 fn stop(alloc: Global, beginning: &Beginning, tally: &mut Tally) -> Result<(), Trouble> {
     for fuse in 0..MOST {
         let mut has_ended = false;
-        for mask in MASKS {
+        for &mask in MASKS {
             let (disk, ended) = stopped(alloc, beginning, (fuse, mask))?;
             find(&alloc, disk, &beginning.machine)?;
             tally.count_case();
@@ -68,7 +68,7 @@ fn stop(alloc: Global, beginning: &Beginning, tally: &mut Tally) -> Result<(), T
 fn stop_twice(alloc: Global, beginning: &Beginning, tally: &mut Tally) -> Result<(), Trouble> {
     for fuse in 0..MOST {
         let mut has_ended = false;
-        for mask in MASKS {
+        for &mask in MASKS {
             let (mut disk, ended) = stopped(alloc, beginning, (fuse, mask))?;
             if checked(alloc, &mut disk)?.is_err() {
                 return Err(Trouble::Check);

@@ -26,20 +26,18 @@ fn had<B: Allocator>(disk: &Disk<B>, start: u64, calls: u64) -> Result<(), Troub
     Err(Trouble::Calls { step: None })
 }
 
-/// Whether a store that was opened although a call was to fail had all its calls before that, and has its map. It gives back the
-/// device.
-fn unfailed(
-    subject: Subject<Global>,
+/// Whether a store that was opened although a call was to fail had all its calls before that, and has its map. No call is to fail
+/// then.
+fn is_unfailed(
+    subject: &mut Subject<Global>,
     machine: &Machine,
     (start, n): (u64, u64),
-) -> Result<Disk, Trouble> {
-    let mut subject = subject;
+) -> Result<(), Trouble> {
     if subject.calls().wrapping_sub(start) > n {
         return Err(Trouble::Calls { step: None });
     }
     subject.fail(u64::MAX, false);
-    has_map(&mut subject, machine)?;
-    Ok(subject.into_disk())
+    has_map(subject, machine)
 }
 
 /// Opens a device of which one call fails, and takes it back, with no call that is still to fail. Returns whether the call was
@@ -54,7 +52,10 @@ fn open_failing(
     let start = disk.calls();
     disk.fail(n, kept);
     match open(alloc, alloc, disk) {
-        Ok(subject) => Ok((unfailed(subject, machine, (start, n))?, false)),
+        Ok(mut subject) => {
+            is_unfailed(&mut subject, machine, (start, n))?;
+            Ok((subject.into_disk(), false))
+        }
         Err((Refusal::Io, disk)) => {
             had(&disk, start, n.wrapping_add(1))?;
             Ok((disk, true))
@@ -80,6 +81,11 @@ fn fail(
     Ok(met)
 }
 
+/// The mask before a place, if there is one.
+fn mask_before(turn: usize) -> Option<Mask> {
+    Some(*MASKS.get(turn.checked_sub(1)?)?)
+}
+
 /// Lets each call of an opening fail in turn.
 fn fail_each(
     alloc: Global,
@@ -87,20 +93,15 @@ fn fail_each(
     extent: Extent,
     tally: &mut Tally,
 ) -> Result<(), Trouble> {
-    let [none, all, even, odd] = MASKS;
+    const KEPT: &[bool] = &[false, true];
     for case in 0..MOST {
         let n = case.wrapping_mul(extent.every);
         let mut met = false;
-        for (turn, mask) in [
-            (0, None),
-            (1, Some(none)),
-            (2, Some(all)),
-            (3, Some(even)),
-            (4, Some(odd)),
-        ] {
-            if extent.takes(n, turn, 5) {
-                for kept in [false, true] {
-                    met = fail(alloc, beginning, (n, kept), mask)?;
+        // Without a crash, and with one under each of the masks.
+        for turn in 0..=MASKS.len() {
+            if extent.takes(n, turn as u64, 5) {
+                for &kept in KEPT {
+                    met = fail(alloc, beginning, (n, kept), mask_before(turn))?;
                     tally.count_case();
                     tally.count_failed(met);
                     tally.count_opening();

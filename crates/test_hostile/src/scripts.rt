@@ -7,7 +7,7 @@ use test_compared_steps::lists::ListedStep;
 use test_compared_steps::plain::{Change, Condition, Division, Step, Value};
 
 /// Four runs of level 0, of which the merge of the oldest comes next.
-pub(crate) const FOUR_RUNS: [ListedStep; 4] = [
+pub(crate) const FOUR_RUNS: &[ListedStep] = &[
     ListedStep::Flush(1, 1),
     ListedStep::Flush(2, 2),
     ListedStep::Flush(3, 3),
@@ -15,7 +15,7 @@ pub(crate) const FOUR_RUNS: [ListedStep; 4] = [
 ];
 
 /// As many runs of level 0 as may be there.
-pub(crate) const TWELVE_RUNS: [ListedStep; 12] = [
+pub(crate) const TWELVE_RUNS: &[ListedStep] = &[
     ListedStep::Flush(1, 1),
     ListedStep::Flush(2, 2),
     ListedStep::Flush(3, 3),
@@ -31,7 +31,7 @@ pub(crate) const TWELVE_RUNS: [ListedStep; 12] = [
 ];
 
 /// Three runs of level 0, a table of level 1, and two batches after them.
-const TABLES: [ListedStep; 8] = [
+const TABLES: &[ListedStep] = &[
     ListedStep::Flush(1, 1),
     ListedStep::Flush(2, 2),
     ListedStep::Flush(1, 3),
@@ -43,7 +43,7 @@ const TABLES: [ListedStep; 8] = [
 ];
 
 /// Five runs of level 0.
-const FIVE_RUNS: [ListedStep; 7] = [
+const FIVE_RUNS: &[ListedStep] = &[
     ListedStep::Flush(1, 1),
     ListedStep::Flush(2, 2),
     ListedStep::Flush(3, 3),
@@ -54,7 +54,7 @@ const FIVE_RUNS: [ListedStep; 7] = [
 ];
 
 /// Two batches in a log, and one in a table before them.
-pub(crate) const BATCHES: [ListedStep; 4] = [
+pub(crate) const BATCHES: &[ListedStep] = &[
     ListedStep::Flush(1, 1),
     ListedStep::Put(2),
     ListedStep::Long(3, 600),
@@ -62,7 +62,7 @@ pub(crate) const BATCHES: [ListedStep; 4] = [
 ];
 
 /// Gets and scans of all of them.
-const READS: [ListedStep; 9] = [
+const READS: &[ListedStep] = &[
     ListedStep::Get(1),
     ListedStep::Get(2),
     ListedStep::Get(3),
@@ -75,7 +75,7 @@ const READS: [ListedStep; 9] = [
 ];
 
 /// A rotation and the flush after it, as the first job.
-const ROTATED: [ListedStep; 8] = [
+const ROTATED: &[ListedStep] = &[
     ListedStep::One(Step::Rotate),
     ListedStep::One(Step::Rotate),
     ListedStep::Job(1),
@@ -87,7 +87,7 @@ const ROTATED: [ListedStep; 8] = [
 ];
 
 /// A merge of level 0, and the next flush.
-const MERGED: [ListedStep; 6] = [
+const MERGED: &[ListedStep] = &[
     ListedStep::Job(1),
     ListedStep::Put(5),
     ListedStep::One(Step::Rotate),
@@ -97,7 +97,7 @@ const MERGED: [ListedStep; 6] = [
 ];
 
 /// The merge of the oldest three runs; of those after it there are too few for another.
-const THREE_MERGED: [ListedStep; 10] = [
+const THREE_MERGED: &[ListedStep] = &[
     ListedStep::One(Step::TakeOf(Choice::OldestRuns { count: 3 })),
     ListedStep::One(Step::Read(1)),
     ListedStep::Put(5),
@@ -111,7 +111,7 @@ const THREE_MERGED: [ListedStep; 10] = [
 ];
 
 /// A flush and a merge side by side.
-const SIDE_BY_SIDE: [ListedStep; 18] = [
+const SIDE_BY_SIDE: &[ListedStep] = &[
     ListedStep::Put(6),
     ListedStep::One(Step::Rotate),
     ListedStep::One(Step::Take),
@@ -149,7 +149,7 @@ pub(crate) const LACKS_9: Condition = Condition {
 };
 
 /// Commits of one sector and of two, also under guards of keys in memory, and syncs.
-const COMMITS: [ListedStep; 12] = [
+const COMMITS: &[ListedStep] = &[
     ListedStep::Put(1),
     ListedStep::Long(2, 600),
     ListedStep::One(Step::Sync),
@@ -165,7 +165,7 @@ const COMMITS: [ListedStep; 12] = [
 ];
 
 /// A batch that fills the log, and what comes after it.
-const FULL: [ListedStep; 8] = [
+const FULL: &[ListedStep] = &[
     ListedStep::One(Step::Commit(Change::Fill)),
     ListedStep::Put(1),
     ListedStep::One(Step::Room),
@@ -177,7 +177,7 @@ const FULL: [ListedStep; 8] = [
 ];
 
 /// Snapshots over a flush.
-const SNAPSHOTS: [ListedStep; 20] = [
+const SNAPSHOTS: &[ListedStep] = &[
     ListedStep::Put(1),
     ListedStep::Long(1, 2),
     ListedStep::One(Step::Rotate),
@@ -201,7 +201,7 @@ const SNAPSHOTS: [ListedStep; 20] = [
 ];
 
 /// A scan at a snapshot over a flush.
-const SCANS: [ListedStep; 12] = [
+const SCANS: &[ListedStep] = &[
     ListedStep::Put(1),
     ListedStep::Put(2),
     ListedStep::Put(3),
@@ -217,7 +217,7 @@ const SCANS: [ListedStep; 12] = [
 ];
 
 /// Five flushes and two merges.
-const JOBS: [ListedStep; 11] = [
+const JOBS: &[ListedStep] = &[
     ListedStep::Flush(1, 1),
     ListedStep::Delete(1),
     ListedStep::Flush(2, 2),
@@ -232,7 +232,7 @@ const JOBS: [ListedStep; 11] = [
 ];
 
 /// A table of a delete and a put goes down from level 1 to level 4, where the delete has nothing left to hide.
-const DELETES: [ListedStep; 8] = [
+const DELETES: &[ListedStep] = &[
     ListedStep::Job(1),
     ListedStep::Job(2),
     ListedStep::Get(2),
@@ -249,7 +249,7 @@ const AT_2_AND_3: Division = Division {
 };
 
 /// Three neighbours of level 1: of key 1, of key 2, and of keys 3 and 4.
-const NEIGHBOURS: [ListedStep; 5] = [
+const NEIGHBOURS: &[ListedStep] = &[
     ListedStep::Flush(1, 1),
     ListedStep::Flush(2, 2),
     ListedStep::Flush(3, 3),
@@ -259,7 +259,7 @@ const NEIGHBOURS: [ListedStep; 5] = [
 
 /// A rewrite of neighbours in their own place, along with which a flush goes on and no other merge, and one that keeps nothing, since
 /// its delete hides nothing more.
-const REWRITTEN: [ListedStep; 19] = [
+const REWRITTEN: &[ListedStep] = &[
     ListedStep::One(Step::TakeOf(Choice::Rewrite { first: 5, last: 6 })),
     ListedStep::One(Step::TakeOf(Choice::Tables { first: 7, last: 7 })),
     ListedStep::One(Step::Snapshot),
@@ -289,7 +289,7 @@ const REWRITTEN: [ListedStep; 19] = [
 ];
 
 /// Neighbours go down, alone and several, until a delete meets what it hides.
-const LOWERED: [ListedStep; 10] = [
+const LOWERED: &[ListedStep] = &[
     ListedStep::One(Step::TakeOf(Choice::Tables { first: 1, last: 1 })),
     ListedStep::One(Step::TakeOf(Choice::Rewrite { first: 1, last: 1 })),
     ListedStep::One(Step::TakeOf(Choice::Tables { first: 3, last: 3 })),
@@ -306,22 +306,22 @@ const LOWERED: [ListedStep; 10] = [
 pub(crate) const COUNT: usize = 16;
 
 /// The lists.
-pub(crate) const LISTS: [List; COUNT] = [
+pub(crate) const LISTS: &[List] = &[
     List {
         name: "a store with a torn batch",
-        past: &BATCHES,
+        past: BATCHES,
         after: After::Torn,
         is_opened: true,
         before: &[],
-        steps: &ROTATED,
+        steps: ROTATED,
     },
     List {
         name: "a store with tables in all levels",
-        past: &FIVE_RUNS,
+        past: FIVE_RUNS,
         after: After::Spread,
         is_opened: true,
         before: &[],
-        steps: &READS,
+        steps: READS,
     },
     List {
         name: "commits",
@@ -329,23 +329,23 @@ pub(crate) const LISTS: [List; COUNT] = [
         after: After::Nothing,
         is_opened: false,
         before: &[],
-        steps: &COMMITS,
+        steps: COMMITS,
     },
     List {
         name: "reads with nothing cached",
-        past: &TABLES,
+        past: TABLES,
         after: After::Nothing,
         is_opened: true,
         before: &[],
-        steps: &READS,
+        steps: READS,
     },
     List {
         name: "reads with all cached",
-        past: &TABLES,
+        past: TABLES,
         after: After::Nothing,
         is_opened: false,
-        before: &READS,
-        steps: &READS,
+        before: READS,
+        steps: READS,
     },
     List {
         name: "a rotation and a flush",
@@ -353,31 +353,31 @@ pub(crate) const LISTS: [List; COUNT] = [
         after: After::Nothing,
         is_opened: false,
         before: &[ListedStep::Put(1), ListedStep::Long(2, 600)],
-        steps: &ROTATED,
+        steps: ROTATED,
     },
     List {
         name: "a merge and a flush",
-        past: &FOUR_RUNS,
+        past: FOUR_RUNS,
         after: After::Nothing,
         is_opened: false,
         before: &[],
-        steps: &MERGED,
+        steps: MERGED,
     },
     List {
         name: "a merge of three runs",
-        past: &FOUR_RUNS,
+        past: FOUR_RUNS,
         after: After::Nothing,
         is_opened: false,
         before: &[],
-        steps: &THREE_MERGED,
+        steps: THREE_MERGED,
     },
     List {
         name: "a merge beside a flush",
-        past: &FOUR_RUNS,
+        past: FOUR_RUNS,
         after: After::Nothing,
         is_opened: false,
         before: &[],
-        steps: &SIDE_BY_SIDE,
+        steps: SIDE_BY_SIDE,
     },
     List {
         name: "a full log",
@@ -385,7 +385,7 @@ pub(crate) const LISTS: [List; COUNT] = [
         after: After::Nothing,
         is_opened: false,
         before: &[],
-        steps: &FULL,
+        steps: FULL,
     },
     List {
         name: "snapshots over a flush",
@@ -393,7 +393,7 @@ pub(crate) const LISTS: [List; COUNT] = [
         after: After::Nothing,
         is_opened: false,
         before: &[],
-        steps: &SNAPSHOTS,
+        steps: SNAPSHOTS,
     },
     List {
         name: "scans over a flush",
@@ -401,7 +401,7 @@ pub(crate) const LISTS: [List; COUNT] = [
         after: After::Nothing,
         is_opened: false,
         before: &[],
-        steps: &SCANS,
+        steps: SCANS,
     },
     List {
         name: "five flushes and two merges",
@@ -409,39 +409,39 @@ pub(crate) const LISTS: [List; COUNT] = [
         after: After::Nothing,
         is_opened: false,
         before: &[],
-        steps: &JOBS,
+        steps: JOBS,
     },
     List {
         name: "deletes that go down",
-        past: &FIVE_RUNS,
+        past: FIVE_RUNS,
         after: After::Spread,
         is_opened: false,
         before: &[],
-        steps: &DELETES,
+        steps: DELETES,
     },
     List {
         name: "rewrites in their own place",
-        past: &NEIGHBOURS,
+        past: NEIGHBOURS,
         after: After::Nothing,
         is_opened: false,
         before: &[],
-        steps: &REWRITTEN,
+        steps: REWRITTEN,
     },
     List {
         name: "neighbours that go down",
-        past: &FIVE_RUNS,
+        past: FIVE_RUNS,
         after: After::Spread,
         is_opened: false,
         before: &[],
-        steps: &LOWERED,
+        steps: LOWERED,
     },
 ];
 
 /// A put in a table, and nothing else.
-pub(crate) const ONE_KEY: [ListedStep; 1] = [ListedStep::Flush(0x61, 1)];
+pub(crate) const ONE_KEY: &[ListedStep] = &[ListedStep::Flush(0x61, 1)];
 
 /// Four runs of level 0, a table of level 1, and batches after them.
-pub(crate) const MANY_TABLES: [ListedStep; 9] = [
+pub(crate) const MANY_TABLES: &[ListedStep] = &[
     ListedStep::Flush(1, 1),
     ListedStep::Flush(2, 2),
     ListedStep::Flush(1, 3),
@@ -454,7 +454,7 @@ pub(crate) const MANY_TABLES: [ListedStep; 9] = [
 ];
 
 /// What is done with a store of a foreign image: a get, a scan, a put, and calls after them.
-pub(crate) const CALLS: [ListedStep; 19] = [
+pub(crate) const CALLS: &[ListedStep] = &[
     ListedStep::Get(0x61),
     ListedStep::Get(1),
     ListedStep::Scan(0, 64),
@@ -477,7 +477,7 @@ pub(crate) const CALLS: [ListedStep; 19] = [
 ];
 
 /// Jobs of a store of a foreign image.
-pub(crate) const WORK: [ListedStep; 15] = [
+pub(crate) const WORK: &[ListedStep] = &[
     ListedStep::One(Step::Take),
     ListedStep::One(Step::Take),
     ListedStep::One(Step::Read(2)),

@@ -11,6 +11,7 @@ use test_compared_sessions::judge::{Harm, Judge, Then};
 use test_compared_sessions::sitting::lead;
 use test_compared_steps::beginnings::{Beginning, begun};
 use test_compared_steps::disk::{MASKS, Mask, mask_of};
+use test_compared_steps::plain::Machine;
 use test_compared_steps::playing::{crash, is_left, opened};
 use test_compared_steps::trouble::Trouble;
 use test_merge::budget::Budget;
@@ -27,14 +28,17 @@ struct SessionFault {
     then: Then,
 }
 
-/// Whether `made` calls agree with what the clients were told of the one that fails: a stopped store makes none after it, and
-/// neither does a session that ended with it.
-fn have_made(judge: &Judge<'_>, fault: SessionFault, made: u64) -> Result<(), Trouble> {
-    let is_last = judge.machine.is_stopped() || fault.then == Then::End;
-    let is_right = match (judge.is_met, is_last) {
-        (true, true) => made == fault.n.wrapping_add(1),
-        (true, false) => made > fault.n,
-        (false, _) => made <= fault.n,
+/// Whether no call comes after the one that fails: a stopped store makes none, and neither does a session that ended with it.
+fn is_last(machine: &Machine, then: Then) -> bool {
+    machine.is_stopped() || then == Then::End
+}
+
+/// Whether `made` calls agree with what the clients were told of the one of number `n` that fails.
+fn have_made((is_met, is_last): (bool, bool), n: u64, made: u64) -> Result<(), Trouble> {
+    let is_right = match (is_met, is_last) {
+        (true, true) => made == n.wrapping_add(1),
+        (true, false) => made > n,
+        (false, _) => made <= n,
     };
     if is_right {
         return Ok(());
@@ -60,7 +64,8 @@ fn fail<R: Threads + Wait + Sync>(
     let start = subject.calls();
     subject.fail(fault.n, fault.kept);
     let mut subject = lead(rt, alloc, subject, &mut judge, sitting)?;
-    have_made(&judge, fault, subject.calls().wrapping_sub(start))?;
+    let met = (judge.is_met, is_last(&judge.machine, fault.then));
+    have_made(met, fault.n, subject.calls().wrapping_sub(start))?;
     subject.fail(u64::MAX, false);
     is_left(&mut subject, &mut judge.machine)?;
     crash(&alloc, subject, &judge.machine, fault.mask)?;
@@ -75,16 +80,12 @@ fn fail_at<R: Threads + Wait + Sync>(
     (n, extent): (u64, Extent),
     tally: &mut Tally,
 ) -> Result<bool, Trouble> {
-    let [none, all, even, odd] = MASKS;
+    const THEN: &[Then] = &[Then::Again, Then::Again, Then::End, Then::Again];
+    const KEPT: &[bool] = &[false, true];
     let mut met = false;
-    for (turn, mask, then) in [
-        (0, none, Then::Again),
-        (1, all, Then::Again),
-        (2, even, Then::End),
-        (3, odd, Then::Again),
-    ] {
-        for kept in [false, true] {
-            if extent.takes(n, turn, 4) {
+    for (turn, (&mask, &then)) in MASKS.iter().zip(THEN).enumerate() {
+        for &kept in KEPT {
+            if extent.takes(n, turn as u64, 4) {
                 let fault = SessionFault {
                     n,
                     kept,
@@ -153,6 +154,9 @@ fn refuse<R: Threads + Wait + Sync>(
     refuse_in(rt, &heap, (alloc, beginning), sitting, growth)
 }
 
+/// What is done after a growth that is refused.
+const AFTER: &[Then] = &[Then::Next, Then::Again];
+
 fn refuse_each<R: Threads + Wait + Sync>(
     rt: &R,
     alloc: Global,
@@ -163,7 +167,7 @@ fn refuse_each<R: Threads + Wait + Sync>(
     for turn in 0..MOST {
         let n = extent.call(turn);
         let mut met = false;
-        for then in [Then::Next, Then::Again] {
+        for &then in AFTER {
             met = refuse(rt, alloc, beginning, sitting, (n, then))?;
             tally.count_case();
             tally.count_refused(met);

@@ -9,7 +9,7 @@ use crate::tally::{Course, Tally};
 use crate::trouble::Trouble;
 
 /// The sectors of larger stores, and of their log regions.
-const LARGE: [(u32, u16); 10] = [
+const LARGE: &[(u32, u16)] = &[
     (16_384, 2_048),
     (16_384, 256),
     (32_768, 1_024),
@@ -23,7 +23,7 @@ const LARGE: [(u32, u16); 10] = [
 ];
 
 /// The sectors of shorter log regions.
-const SHORT: [u16; 4] = [128, 256, 512, 1_024];
+const SHORT: &[u16] = &[128, 256, 512, 1_024];
 
 /// How often a store is filled and rescued.
 const ROUNDS: u32 = 3;

@@ -20,7 +20,7 @@ struct Try {
 }
 
 /// The stores that are filled and emptied: the sectors, those of a log region, the bytes of a key and of a value, and the rows of a batch.
-const TRIES: [(u32, u16, u32, u32, u32); 12] = [
+const TRIES: &[(u32, u16, u32, u32, u32)] = &[
     (8_192, 128, 16, 8, 1_000),
     (8_192, 128, 255, 0, 100),
     (8_192, 128, 128, 0, 100),
@@ -161,7 +161,7 @@ pub fn try_all<R: AllocGlobal>(rt: &R, turns: u32, tally: &mut Tally) {
         return;
     }
     let mut number: u64 = 0;
-    for (sectors, log_sectors, key, value, batch) in TRIES {
+    for &(sectors, log_sectors, key, value, batch) in TRIES {
         let it = Try {
             sectors,
             log_sectors,
