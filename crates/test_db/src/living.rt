@@ -21,10 +21,10 @@ const LOOKS: &[ShortCall] = &[ShortCall::Get(0x61), ShortCall::Get(0x62)];
 
 #[test]
 fn what_is_synced_is_found_and_what_is_not_if_the_crash_keeps_it(rt: HostRuntime) {
-    for (kept, found) in [
+    const CASES: &[(bool, &[ShortReply])] = &[
         (
             false,
-            [
+            &[
                 ShortReply::Number(1),
                 ShortReply::Byte(0x31),
                 ShortReply::Nothing,
@@ -32,15 +32,16 @@ fn what_is_synced_is_found_and_what_is_not_if_the_crash_keeps_it(rt: HostRuntime
         ),
         (
             true,
-            [
+            &[
                 ShortReply::Number(2),
                 ShortReply::Byte(0x31),
                 ShortReply::Byte(0x32),
             ],
         ),
-    ] {
+    ];
+    for &(kept, found) in CASES {
         let given = [life(&rt, None, PUTS, &[kept]), life(&rt, None, LOOKS, &[])];
-        assert!(rt; are_told(&rt, &given, &[ADDED, &found]));
+        assert!(rt; are_told(&rt, &given, &[ADDED, found]));
     }
 }
 

@@ -12,10 +12,12 @@ fn proposed(rows: u64, key_bytes: u32, value_bytes: u32) -> (u32, u32, u16) {
 
 #[test]
 fn small_and_large_stores_are_within_the_limits(rt: HostRuntime) {
-    for (rows, bytes) in [(0, 0), (1, u32::MAX), (100, 20)] {
+    const SMALL: &[(u64, u32)] = &[(0, 0), (1, u32::MAX), (100, 20)];
+    const LARGE: &[(u64, u32)] = &[(u64::MAX, u32::MAX), (u64::MAX, 0), (3_276_801, 1)];
+    for &(rows, bytes) in SMALL {
         assert!(rt; proposed(rows, bytes, bytes) == (256, 8_192, 128));
     }
-    for (rows, bytes) in [(u64::MAX, u32::MAX), (u64::MAX, 0), (3_276_801, 1)] {
+    for &(rows, bytes) in LARGE {
         assert!(rt; proposed(rows, bytes, bytes) == (4_096, 1_048_576, 2_042));
     }
 }

@@ -55,7 +55,8 @@ fn reopen<R: AllocGlobal + Abort>(rt: &R, times: u64) -> u64 {
 
 #[test]
 fn openings_with_a_put_each_go_on(rt: HostRuntime) {
-    for times in [4, 100] {
+    const TIMES: &[u64] = &[4, 100];
+    for &times in TIMES {
         assert!(rt; reopen(&rt, times) == times);
     }
 }

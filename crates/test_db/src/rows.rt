@@ -118,7 +118,8 @@ fn count_with_faults<R: Abort>(rt: &R, db: &mut Subject<MemDevice>) -> Option<(u
 // The rows lie in six blocks of eight sectors.
 #[test]
 fn behind_a_refusal_it_goes_on(rt: HostRuntime) {
-    for reads in [0, 20, 40] {
+    const READS: &[u64] = &[0, 20, 40];
+    for &reads in READS {
         let mut db = armed(&rt, reads);
         assert!(rt; count_with_faults(&rt, &mut db) == Some((200, 1)));
     }
@@ -128,7 +129,7 @@ fn behind_a_refusal_it_goes_on(rt: HostRuntime) {
 fn rows_are_asked_for_one_by_one(rt: HostRuntime) {
     let mut db = with_rows(&rt);
     let mut rows = db.rows_at(At::Now, &key_of(198), None).expect(&rt, "rows");
-    for number in [198, 199] {
+    for number in 198..200 {
         let row = rows.next_row().expect(&rt, "a row");
         assert!(rt; matches!(&row, Some(row) if is_row(row, number)));
     }

@@ -72,7 +72,8 @@ fn a_device_with_pending_writes_is_opened_as_it_reads(rt: HostRuntime) {
 
 #[test]
 fn until_the_first_sync_what_pended_may_be_dropped(rt: HostRuntime) {
-    for (keeps, found) in [(false, FIRST), (true, BOTH)] {
+    const CASES: &[(bool, &[PlainReply])] = &[(false, FIRST), (true, BOTH)];
+    for &(keeps, found) in CASES {
         let given = [
             looking(&rt, rt.alloc(), Some(0), &[keeps]),
             looking(&rt, rt.alloc(), None, &[]),

@@ -47,14 +47,10 @@ pub fn get<A: Allocator>(alloc: A, key: &[u8]) -> Result<Step<A>, Refusal> {
 
 // What ends a job.
 fn end(steps: &mut Vec<Step>, job: u64) -> Result<(), Refusal> {
-    for piece in [
-        Work::Build { job, parts: 1 },
-        Work::Accept { job, result: job },
-        Work::Write(job),
-        Work::Install(job),
-    ] {
-        steps.push(Step::Work(piece))?;
-    }
+    steps.push(Step::Work(Work::Build { job, parts: 1 }))?;
+    steps.push(Step::Work(Work::Accept { job, result: job }))?;
+    steps.push(Step::Work(Work::Write(job)))?;
+    steps.push(Step::Work(Work::Install(job)))?;
     Ok(())
 }
 

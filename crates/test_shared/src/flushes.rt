@@ -30,7 +30,8 @@ const BEHIND_A_MERGE: &[Exchange] = &[
 
 #[test]
 fn the_next_piece_is_of_the_flush(rt: HostRuntime) {
-    for table in [BEFORE_A_MERGE, BEHIND_A_MERGE] {
+    const TABLES: &[&[Exchange]] = &[BEFORE_A_MERGE, BEHIND_A_MERGE];
+    for &table in TABLES {
         let store = small(&rt, rt.alloc());
         let left = lead(&rt, rt.alloc(), store, (2, 64), Deeds::Asks(table));
         assert!(rt; left.store.jobs().turn_at(1).is_some());

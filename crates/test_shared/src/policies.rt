@@ -57,7 +57,8 @@ fn fill<B: SessionName, R: Threads + Wait + Abort + Sync>(
     shared: &Shared<MemDevice, Global, B>,
     clients: &mut [Client<Global, B>],
 ) {
-    for (key, number) in [(0x61, 1), (0x62, 2), (0x63, 3)] {
+    const PUTS: &[(u8, u64)] = &[(0x61, 1), (0x62, 2), (0x63, 3)];
+    for &(key, number) in PUTS {
         let table = [
             (0, Ask::Put(key), Outcome::Number(number)),
             (0, Ask::Rotate, Outcome::Done),

@@ -39,7 +39,8 @@ const FOOTER: &str = "4c534d5400000000000000010001000000010000000a0161";
 #[test]
 fn the_extent_of_one_put(rt: HostRuntime) {
     let image = image_of(&rt, rt.alloc(), &[b"a".as_slice()], b"1");
-    for (at, text) in [(0, DATA_BLOCK), (2, INDEX), (3, FOOTER)] {
+    const BLOCKS: &[(usize, &str)] = &[(0, DATA_BLOCK), (2, INDEX), (3, FOOTER)];
+    for &(at, text) in BLOCKS {
         assert!(rt; has_block(&image, at, text));
     }
     assert!(rt; image.extent_blocks() == 4 && block_of(FOOTER) == Some(image.footer(1)));

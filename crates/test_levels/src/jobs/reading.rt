@@ -30,11 +30,12 @@ fn three_runs_are_read_in_two_steps(rt: HostRuntime) {
 #[test]
 fn bad_blocks(rt: HostRuntime) {
     let mut subject = Subject::new(&rt, rt.alloc());
-    for (by, answer) in [
+    const CASES: &[(By, Result<usize, Refusal>)] = &[
         (By::Zeros, Err(Refusal::BadTable)),
         (By::First, Err(Refusal::BadTable)),
         (By::Itself, Ok(6)),
-    ] {
+    ];
+    for &(by, answer) in CASES {
         subject.spoil(&rt, by);
         assert!(rt; subject.read() == answer);
     }

@@ -200,12 +200,8 @@ pub(crate) fn gathered<R: Abort>(rt: &R, alloc: Global) -> Input {
     let mut oldest = entries(rt, alloc, RUNS[0]);
     push_entries(rt, alloc, &mut oldest, LEVEL_1);
     let mut runs = Vec::new(alloc);
-    for run in [
-        entries(rt, alloc, RUNS[2]),
-        entries(rt, alloc, RUNS[1]),
-        oldest,
-    ] {
-        runs.push(run).expect(rt, "memory");
-    }
+    runs.push(entries(rt, alloc, RUNS[2])).expect(rt, "memory");
+    runs.push(entries(rt, alloc, RUNS[1])).expect(rt, "memory");
+    runs.push(oldest).expect(rt, "memory");
     input_of(runs, cuts(rt, alloc), true).expect(rt, "an input")
 }

@@ -155,7 +155,8 @@ fn calls_of_two<R: Abort>(
 
 #[test]
 fn data_blocks_are_counted_once(rt: HostRuntime) {
-    for (block, told) in [(PUT, (0, Some(0x31))), (DELETE, (1, None))] {
+    const CASES: &[(&str, (u8, Option<u8>))] = &[(PUT, (0, Some(0x31))), (DELETE, (1, None))];
+    for &(block, told) in CASES {
         let calls = calls_of_two(&rt, rt.alloc(), block, told);
         // Two superblocks and a sector of manifest, filter, index and footer, and at first the data block and the first sector of an
         // empty log. Then the log has a sector, which the test has put, and the one behind it is read too.

@@ -186,11 +186,17 @@ fn deletes_leave_room_for_what_waits(rt: HostRuntime) {
 #[test]
 fn deletes_join_others(rt: HostRuntime) {
     // A sixteenth of 1,296 blocks is 81, which 990 deletes come to. If a put joins them they may come to no more than 80.
-    for (count, free, wanted) in [(990, 1_296, true), (990, 1_295, false), (991, 1_600, true)] {
+    const FREE: &[(u64, u32, bool)] = &[
+        (990, 1_296, true),
+        (990, 1_295, false),
+        (991, 1_600, true),
+    ];
+    const BESIDE_PUTS: &[(u64, bool)] = &[(989, true), (990, false)];
+    for &(count, free, wanted) in FREE {
         let (given, _) = admitted(&rt, rt.alloc(), free, deletes(1), deletes(count));
         assert!(rt; given == wanted, "{count} {free}");
     }
-    for (count, wanted) in [(989, true), (990, false)] {
+    for &(count, wanted) in BESIDE_PUTS {
         let memory = InMemory {
             waiting: MemSize::empty(),
             before: deletes(1),
@@ -212,7 +218,8 @@ fn deletes_join_others(rt: HostRuntime) {
 fn blocks_to_spare(rt: HostRuntime) {
     // 180 for puts in a small area, and a 24th of it.
     let levels = no_tables(&rt, rt.alloc());
-    for (free, wanted) in [(186, false), (187, true)] {
+    const FREE: &[(u32, bool)] = &[(186, false), (187, true)];
+    for &(free, wanted) in FREE {
         let extents = area_of(&rt, rt.alloc(), 1, free);
         let standing = Standing {
             levels: &levels,

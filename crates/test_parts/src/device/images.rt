@@ -44,7 +44,7 @@ fn leaves<R: Abort>(rt: &R, alloc: Global, mask: &[bool], bytes: &[u8; 3]) -> bo
 
 #[test]
 fn each_mask_leaves_what_it_leaves_of_a_device_in_memory(rt: HostRuntime) {
-    for (mask, bytes) in MASKS {
+    for &(mask, bytes) in MASKS {
         assert!(rt; leaves(&rt, rt.alloc(), mask, &bytes));
     }
 }

@@ -26,7 +26,7 @@ fn leaves<R: Abort>(rt: &R, alloc: Global, mask: &[bool], bytes: &[u8; 3]) -> bo
 
 #[test]
 fn a_crash_keeps_what_the_mask_says(rt: HostRuntime) {
-    for (mask, bytes) in MASKS {
+    for &(mask, bytes) in MASKS {
         assert!(rt; leaves(&rt, rt.alloc(), mask, &bytes));
     }
 }

@@ -47,7 +47,7 @@ pub fn three_pend<D: Device>(device: &mut D) -> Result<(), Fault> {
 }
 
 /// Each mask over the three, and what the sectors are filled with after the crash.
-pub const MASKS: [(&[bool], [u8; 3]); 10] = [
+pub const MASKS: &[(&[bool], [u8; 3])] = &[
     (&[false, false, false], [1, 1, 0]),
     (&[false, false, true], [4, 1, 0]),
     (&[false, true, false], [1, 1, 3]),
