@@ -133,16 +133,16 @@ syncto 1
 SCRIPT
     # A merge's input blocks are given back as its result is accepted: the next flush writes over them before the merge is installed. Of
     # more than 4 writes not each subset is tried, so that it takes no minutes.
-    refused lsm_jobs accept_gives_inputs_back
+    refused lsm_jobs accept_own_gives_inputs_back
     edit <<'EDIT'
 file: lsm_explore/src/masks.rt
 old: const MOST_WRITES: usize = 12;
 new: const MOST_WRITES: usize = 4;
 EDIT
-    shows accept_gives_inputs_back 'explore 8192 128' < <(merges)
+    shows accept_own_gives_inputs_back 'explore 8192 128' < <(merges)
     run
     for name in take_ends_a_batch_without_its_last_part take_passes_over_a_missing_batch sync_to_answers_from_the_batch_count \
-        accept_gives_inputs_back; do
+        accept_own_gives_inputs_back; do
         told "$name" yes "$wrong_once" "${explored[$name]:-}"
     done
 }

@@ -1,5 +1,5 @@
 -- A result is accepted.
-use Rattle.std.proofs.Common.{◌≡◌, ◌≢◌, inl, inr, ℕ, ◌+◌, ◌-◌, ◌<◌, ◌≤◌, ◌^◌, ◌⊎◌, ◌↔◌, not, Bool, true, IsTrue, List, [], ◌∷◌, ◌++◌, length, map, Option, refl, sym, ap, ◌∙◌, subst, arith}
+use Rattle.std.proofs.Common.{◌≡◌, ◌≢◌, inl, inr, ℕ, ◌+◌, ◌-◌, ◌<◌, ◌≤◌, ◌^◌, ◌⊎◌, not, List, [], ◌∷◌, ◌++◌, length, map, Option, refl, sym, ap, ◌∙◌, subst, arith}
 use Rattle.std.specs.Prelude.{sum_by, ltb}
 use Rattle.std.specs.List.{AllByRecursion}
 use Rattle.std.proofs.lemmas.Bool.{and_parts, ltb-true}
@@ -135,12 +135,9 @@ has_other job place slots mine input f other = subst (HasOtherInput input) (sym 
 
 -- ---- the call
 
--- a result is of the job's own input
-pub same_input : (b : Bool) (x y own given : MergeInput) → b ≡ true → IsTrue b ↔ (x ≡ y) → x ≡ own → y ≡ given → own ≡ given
-same_input b x y own given t is p q = sym p ∙ is.0 t ∙ q
-
-pub found_input : (job place : ℕ) (slots : Slots) (own given : MergeInput) → IsFrozenAt job slots place own → own ≡ given → HasInput given (slot_of job slots)
-found_input job place slots own given at same = subst (HasInput given) (sym at.at.is) (at.frozen, at.own ∙ same)
+-- the input of a frozen job is its own
+pub own_input : (job place : ℕ) (slots : Slots) (input own : MergeInput) → IsFrozenAt job slots place input → HasInput own (slot_of job slots) → input ≡ own
+own_input job place slots input own found has = let there = subst (HasInput own) found.at.is has in sym found.own ∙ there.1
 
 pub kept_same : (own : MergeInput) (result : MergeResult) (images : List TableBlocks) → own ≡ result.input → images ≡ result.images → AreTablesAt result.divisions (kept_of result.input) result.images → AreTables (kept_of own) images
 kept_same own result images same list kept = subst (λ (i : MergeInput). AreTables (kept_of i) images) (sym same) (subst (AreTables (kept_of result.input)) (sym list) (result_tables result kept))

@@ -1,8 +1,9 @@
 //! How a result is accepted for a job.
 
-ghost use Rattle.std.specs.Prelude.{◌≡◌, ◌≤◌, ◌+◌, ◌^◌, ◌⊎◌, length, IfOk, IfErr, OnOk, OnErr, Err};
+ghost use Rattle.std.specs.Prelude.{◌≡◌, ◌≤◌, ◌+◌, ℕ, ◌^◌, ◌⊎◌, length, IfOk, IfErr, OnOk, OnErr, Err};
 ghost use Rattle.std.specs.Arc.{arc_value};
 ghost use Rattle.lsm_device.specs.declared.refusal.Refusal.TheVariants.{NoMemory, NoSpace};
+ghost use Rattle.lsm_extent.specs.Area.{Area};
 ghost use Rattle.lsm_merge.specs.Divisions.{AreTables};
 ghost use Rattle.lsm_merge.specs.Inputs.{kept_of};
 ghost use Rattle.lsm_jobs.specs.Slots.{slot_of};
@@ -79,6 +80,22 @@ impl<A: Allocator> Slots<A> {
         Ok(Arc::try_clone(input)?)
     }
 
+    /// Fails where a result was not built of the input of a frozen job: with `NoSuchJob` where no slot has the number; `WrongState` where
+    /// the job is not frozen; and `ForeignResult` where the result's input is not the job's. It takes as long as reading all entries of
+    /// both.
+    pub fn check_result(&self, job: u64, built: &Built<A>) -> Result<(), Refusal>
+        ensures own { IfOk result (λ _. HasInput built.now.input (slot_of job self.now.slots)) }
+        ensures refused { (next_table : ℕ) (area : Area) → IfErr result
+            (RefusesResult next_table built.now.input built.now.images area
+            (slot_of job self.now.slots)) }
+    {
+        let (_place, input) = self.frozen(job)?;
+        if !input.is_same(built.input()) {
+            return Err(Refusal::ForeignResult);
+        }
+        Ok(())
+    }
+
     /// Accepts a result for a frozen job: its tables are numbered from `next_table` on and placed in order, each in the
     /// lowest free run of its blocks, and all of their blocks are left to write. The images are shared with the result. It
     /// answers the number of the table after them.
@@ -107,10 +124,33 @@ impl<A: Allocator> Slots<A> {
             (slot_of job self.old.slots)) }
         ensures unchanged { OnErr result ((self.new ≡ self.old) × (extents.new ≡ extents.old)) }
     {
+        self.check_result(job, built)?;
+        self.accept_own(alloc, job, built, extents, next_table)
+    }
+
+    /// Accepts a result that was built of the job's own input, as [`accept`](Slots::accept) does, which compares the two.
+    pub fn accept_own(
+        &mut self,
+        alloc: &A,
+        job: u64,
+        built: &Built<A>,
+        extents: &mut Extents<A>,
+        next_table: u64,
+    ) -> Result<u64, Refusal>
+    where
+        A: Clone,
+        requires next { next_table ≤ 2 ^ 63 + 1 }
+        requires own { HasInput built.now.input (slot_of job self.old.slots) }
+        ensures next { IfOk result (λ next. next ≡ next_table + length built.now.images) }
+        ensures accepted { OnOk result
+            (IsAccepted job next_table built.now.input built.now.images extents.old extents.new
+            self.old self.new) }
+        ensures refused { IfErr result
+            (RefusesResult next_table built.now.input built.now.images extents.old
+            (slot_of job self.old.slots)) }
+        ensures unchanged { OnErr result ((self.new ≡ self.old) × (extents.new ≡ extents.old)) }
+    {
         let (place, input) = self.frozen(job)?;
-        if !input.is_same(built.input()) {
-            return Err(Refusal::ForeignResult);
-        }
         let images = built.images();
         let count = images.len() as u64;
         if count > NUMBERS_END - next_table {

@@ -70,3 +70,4 @@ pub mod OpenedMachines
 pub mod Stats
 pub mod Accounted
 pub mod FewTables
+pub mod Merged

@@ -6,6 +6,7 @@ pub mod LiveMarks
 pub mod Memory
 pub mod Appending
 pub mod Working
+pub mod Merging
 pub mod OpenedWork
 pub mod StoredTables
 pub mod InstalledJobs

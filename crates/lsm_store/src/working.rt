@@ -1,5 +1,5 @@
 // The pieces of work on jobs, over the parts of a store.
-ghost use Rattle.std.specs.Prelude.{◌≡◌, ℕ, length, Option, Some, None, nat_le, option_map, if◌then◌else◌, IsTrue};
+ghost use Rattle.std.specs.Prelude.{◌≡◌, ℕ, length, Option, Some, None, nat_le, option_map, if◌then◌else◌, IsTrue, IfOk, MatchResult};
 ghost use Rattle.std.specs.Arc.{arc_value};
 ghost use Rattle.lsm_cache.specs.Recency.{Cached};
 ghost use Rattle.lsm_device.specs.Medium.{Medium, disk};
@@ -7,14 +7,17 @@ ghost use Rattle.lsm_machine.specs.Calls.{Number, Done, Handed, reply_of, taken_
 ghost use Rattle.lsm_store.specs.Memory.{AreConsistent, IsInside, view_of};
 ghost use Rattle.lsm_machine.specs.Work.{Take, Read, Ask, Accept, Write, Drop};
 ghost use Rattle.lsm_store.specs.Working.{Works};
+ghost use Rattle.lsm_store.specs.Merging.{IsMerged, RefusesMerge};
+ghost use Rattle.lsm_jobs.specs.Refusing.{HasInput};
+ghost use Rattle.lsm_jobs.specs.Slots.{slot_of};
 
 use crate::memory::Memory;
-use lsm_codec::LogRecord;
+use lsm_codec::{Key, LogRecord};
 use lsm_device::{Device, Refusal};
 use lsm_jobs::TakenJob;
 use lsm_levels::Choice;
 use lsm_mem::Sealed;
-use lsm_merge::{Built, Input};
+use lsm_merge::{Built, Input, build_here};
 use std::alloc::Allocator;
 use std::sync::Arc;
 
@@ -109,13 +112,65 @@ pub(crate) fn write<D: Device, A: Allocator>(
 /// What a job's merge is given.
 pub(crate) fn input<A: Allocator>(memory: &Memory<A>, job: u64) -> Result<Arc<Input<A>, A>, Refusal>
     requires { AreConsistent memory.now }
-    ensures { (medium : Medium) (cache : Cached)
+    ensures works { (medium : Medium) (cache : Cached)
         → Works (view_of medium memory.now cache) (Ask job)
         (reply_of (λ input. Handed (arc_value input)) result)
         (view_of medium memory.now cache) }
+    ensures own { IfOk result
+        (λ input. HasInput (arc_value input) (slot_of job memory.now.jobs.slots)) }
 {
     memory.check_running()?;
     memory.jobs.input(job)
+}
+
+/// Merges what a job has, and places the tables of the result.
+pub(crate) fn merge<A: Allocator + Clone>(
+    memory: &mut Memory<A>,
+    job: u64,
+    divisions: Vec<Key<A>, A>,
+) -> Result<(), Refusal>
+    requires { AreConsistent memory.old }
+    ensures works { (medium : Medium) (cache : Cached) → IsInside medium.size memory.old
+        → (IsTrue medium.lasting.tells → length (disk medium).stands ≡ medium.size)
+        → MatchResult result
+        (λ _. IsMerged job divisions.items Done (view_of medium memory.old cache)
+        (view_of medium memory.new cache))
+        (λ refusal. RefusesMerge job divisions.items refusal (view_of medium memory.old cache)
+        (view_of medium memory.new cache)) }
+    ensures kept { AreConsistent memory.new }
+    ensures inside { (size : ℕ) → IsInside size memory.old → IsInside size memory.new }
+{
+    let input = input(memory, job)?;
+    let alloc = memory.regions.closed.allocator().clone()?;
+    let built = build_here(alloc, input, divisions)?;
+    accept_own(memory, job, &built)
+}
+
+/// Places the tables of a result that was built of the job's own input.
+fn accept_own<A: Allocator + Clone>(
+    memory: &mut Memory<A>,
+    job: u64,
+    built: &Built<A>,
+) -> Result<(), Refusal>
+    requires kept { AreConsistent memory.old }
+    requires own { HasInput built.now.input (slot_of job memory.old.jobs.slots) }
+    ensures works { (medium : Medium) (cache : Cached) → IsInside medium.size memory.old
+        → (IsTrue medium.lasting.tells → length (disk medium).stands ≡ medium.size)
+        → Works (view_of medium memory.old cache) (Accept job (Some built.now))
+        (reply_of (λ _. Done) result) (view_of medium memory.new cache) }
+    ensures kept { AreConsistent memory.new }
+    ensures inside { (size : ℕ) → IsInside size memory.old → IsInside size memory.new }
+{
+    memory.check_running()?;
+    let _images = built.images();
+    let alloc = memory.regions.closed.allocator();
+    let number = memory.next_table;
+    let next = memory
+        .jobs
+        .accept_own(alloc, job, built, &mut memory.extents, number)?;
+    memory.next_table = next;
+    memory.extents.partition();
+    Ok(())
 }
 
 /// Places the tables of a result.
@@ -133,15 +188,8 @@ pub(crate) fn accept<A: Allocator + Clone>(
     ensures inside { (size : ℕ) → IsInside size memory.old → IsInside size memory.new }
 {
     memory.check_running()?;
-    let _images = built.images();
-    let alloc = memory.regions.closed.allocator();
-    let number = memory.next_table;
-    let next = memory
-        .jobs
-        .accept(alloc, job, built, &mut memory.extents, number)?;
-    memory.next_table = next;
-    memory.extents.partition();
-    Ok(())
+    memory.jobs.check_result(job, built)?;
+    accept_own(memory, job, built)
 }
 
 /// Gives a job up.

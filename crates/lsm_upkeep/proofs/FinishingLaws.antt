@@ -1,13 +1,13 @@
 -- How a job goes on.
-use Rattle.std.proofs.Common.{◌≡◌, ◌+◌, ◌<◌, ◌≤◌, ◌-◌, ℕ, suc, Option, Some, None, Result, Ok, Err, MatchResult, List, inl, inr, refl, sym, subst, arith}
+use Rattle.std.proofs.Common.{◌≡◌, ◌+◌, ◌<◌, ◌≤◌, ◌-◌, ℕ, suc, Option, Some, None, Result, Ok, Err, MatchResult, List, inl, inr, ⊎_elim, refl, sym, subst, arith}
 use Rattle.lsm_codec.specs.Keys.{Bytes}
 use Rattle.lsm_device.specs.declared.refusal.Refusal.{Refusal}
 use Rattle.lsm_merge.specs.Divisions.{AreTablesAt}
-use Rattle.lsm_merge.specs.Inputs.{MergeInput, kept_of}
-use Rattle.lsm_merge.specs.Results.{MergeResult}
+use Rattle.lsm_merge.specs.Inputs.{kept_of}
 use Rattle.lsm_store.specs.Backing.{StoreView}
-use Rattle.lsm_machine.specs.Calls.{Number, Done, Given, Handed, Refused, reply_of, taken_reply}
-use Rattle.lsm_machine.specs.Work.{Work, Take, Ask, Accept, Write, Install}
+use Rattle.lsm_machine.specs.Calls.{Reply, Number, Done, Given, Refused, reply_of, taken_reply}
+use Rattle.lsm_machine.specs.Work.{Work, Take, Write, Install}
+use Rattle.lsm_store.specs.Merging.{IsMerged, RefusesMerge}
 use Rattle.lsm_store.specs.Working.{Works}
 use Rattle.lsm_jobs.specs.declared.taking.TakenJob.{TakenJob}
 use Rattle.lsm_levels.specs.declared.choosing.Choice.{Choice}
@@ -48,18 +48,27 @@ none-left piece left old new none h = let zero_left : left ≡ 0 = omega (arith,
 
 -- ---- a merge
 
--- what an accept answers of a result that was built of the input that was lent
-pub offered-answered : (job : ℕ) (old mid new : StoreView) (input : MergeInput) (divisions : List Bytes) (result : MergeResult) (r : Result (Unit {0}) Refusal) → Works old (Ask job) (Handed input) mid
-    → result.input ≡ input → result.divisions ≡ divisions → AreTablesAt divisions (kept_of input) result.images → Works mid (Accept job (Some result)) (reply_of (λ _. Done) r) new
+-- what a merge by the store itself answers
+pub merged-answered : (job : ℕ) (divisions : List Bytes) (old new : StoreView) (r : Result (Unit {0}) Refusal)
+    → MatchResult r (λ _. IsMerged job divisions Done old new) (λ refusal. RefusesMerge job divisions refusal old new)
     → MatchResult r (λ _. IsOffered job Done old new) (λ _. IsUnmerged job old new)
-offered-answered job old mid new input divisions result r lent own at made works = by r works
+merged-answered job divisions old new r answered = by r answered
   where
-    divided : AreTablesAt result.divisions (kept_of input) result.images
-    divided = subst (λ (keys : List Bytes). AreTablesAt keys (kept_of input) result.images) (sym at) made
+    offered : (reply : Reply) → IsMerged job divisions reply old new → IsOffered job reply old new
+    offered reply is = record {
+      input = is.input;
+      mid = old;
+      result = is.result;
+      lent = is.lent;
+      own = is.own;
+      made = subst (λ (keys : List Bytes). AreTablesAt keys (kept_of is.input) is.result.images) (sym is.divided) is.made;
+      offered = is.offered;
+    }
 
-    by : (r : Result (Unit {0}) Refusal) → Works mid (Accept job (Some result)) (reply_of (λ _. Done) r) new → MatchResult r (λ _. IsOffered job Done old new) (λ _. IsUnmerged job old new)
-    by (Ok done) w = record { input = input; mid = mid; result = result; lent = lent; own = own; made = divided; offered = w }
-    by (Err e) w = inr (inr (e, record { input = input; mid = mid; result = result; lent = lent; own = own; made = divided; offered = w }))
+    by : (r : Result (Unit {0}) Refusal) → MatchResult r (λ _. IsMerged job divisions Done old new) (λ refusal. RefusesMerge job divisions refusal old new)
+        → MatchResult r (λ _. IsOffered job Done old new) (λ _. IsUnmerged job old new)
+    by (Ok done) is = offered Done is
+    by (Err e) is = ⊎_elim (λ asked. inl (e, asked)) (λ later. inr (⊎_elim (λ short. inl (short.0, short.1)) (λ refused. inr (e, offered (Refused e) refused)) later)) is
 
 -- ---- the whole of a job
 

@@ -59,7 +59,7 @@ fn finish_merge<D: Device>(alloc: Global, store: &mut Store<D>, choice: Choice) 
     ensures { IsUpkept store.old store.new }
 {
     match Step::whole(&alloc, choice) {
-        Ok(step) => finish_step(alloc, store, step),
+        Ok(step) => finish_step(store, step),
         Err(_) => false,
     }
 }

@@ -7,7 +7,6 @@ ghost use Rattle.lsm_upkeep.specs.Finishing.{GoesThrough, IsFinished, IsGivenUp,
 
 use lsm_codec::Key;
 use lsm_device::{Device, Refusal};
-use lsm_merge::build_here;
 use lsm_room::Step;
 use lsm_store::{Store, TakenJob};
 use std::alloc::Global;
@@ -18,33 +17,28 @@ pub(crate) fn finish_next<D: Device>(alloc: Global, store: &mut Store<D>) -> boo
     ensures undone { result ≡ false → IsUndone None store.old store.new }
 {
     match store.job_take() {
-        Ok(Some(taken)) => finish_or_drop(alloc, store, taken, Vec::new(alloc)),
+        Ok(Some(taken)) => finish_or_drop(store, taken, Vec::new(alloc)),
         Ok(None) | Err(_) => false,
     }
 }
 
 /// Takes a step and finishes it. Returns whether it did.
-pub(crate) fn finish_step<D: Device>(alloc: Global, store: &mut Store<D>, step: Step) -> bool
+pub(crate) fn finish_step<D: Device>(store: &mut Store<D>, step: Step) -> bool
     ensures finished { result ≡ true → Taken IsFinished (Some step.choice) store.old store.new }
     ensures undone { result ≡ false → IsUndone (Some step.choice) store.old store.new }
 {
     match store.job_take_of(step.choice) {
-        Ok(Some(taken)) => finish_or_drop(alloc, store, taken, step.divisions),
+        Ok(Some(taken)) => finish_or_drop(store, taken, step.divisions),
         Ok(None) | Err(_) => false,
     }
 }
 
 // Finishes a job, or gives it up.
-fn finish_or_drop<D: Device>(
-    alloc: Global,
-    store: &mut Store<D>,
-    taken: TakenJob,
-    divisions: Vec<Key>,
-) -> bool
+fn finish_or_drop<D: Device>(store: &mut Store<D>, taken: TakenJob, divisions: Vec<Key>) -> bool
     ensures finished { result ≡ true → IsFinished taken.number taken.level store.old store.new }
     ensures given_up { result ≡ false → IsGivenUp taken.number taken.level store.old store.new }
 {
-    match finish(alloc, store, taken, divisions) {
+    match finish(store, taken, divisions) {
         Ok(()) => true,
         Err(_) => {
             let _ = store.job_drop(taken.number);
@@ -55,7 +49,6 @@ fn finish_or_drop<D: Device>(
 
 // Does all the work on a job that was taken.
 fn finish<D: Device>(
-    alloc: Global,
     store: &mut Store<D>,
     taken: TakenJob,
     divisions: Vec<Key>,
@@ -64,7 +57,7 @@ fn finish<D: Device>(
         (λ _. IsStuck taken.number taken.level store.old store.new) }
 {
     read(store, taken)?;
-    merge(alloc, store, taken.number, divisions)?;
+    merge(store, taken.number, divisions)?;
     write(store, taken.number)?;
     store.job_install(taken.number)
 }
@@ -97,7 +90,6 @@ fn read_tables<D: Device>(store: &mut Store<D>, job: u64) -> Result<(), Refusal>
 
 /// Merges what was read, and divides it.
 pub(crate) fn merge<D: Device>(
-    alloc: Global,
     store: &mut Store<D>,
     job: u64,
     divisions: Vec<Key>,
@@ -105,9 +97,7 @@ pub(crate) fn merge<D: Device>(
     ensures { MatchResult result (λ _. IsOffered job Done store.old store.new)
         (λ _. IsUnmerged job store.old store.new) }
 {
-    let input = store.job_input(job)?;
-    let built = build_here(alloc, input, divisions)?;
-    store.job_accept(job, &built)
+    store.job_merge(job, divisions)
 }
 
 fn write<D: Device>(store: &mut Store<D>, job: u64) -> Result<(), Refusal>

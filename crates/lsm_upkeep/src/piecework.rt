@@ -84,7 +84,7 @@ fn build<D: Device>(
         Some(divisions) => divisions,
         None => Vec::new(alloc),
     };
-    let done = merge(alloc, store, job, divisions).is_ok();
+    let done = merge(store, job, divisions).is_ok();
     end_of(store, job, done, PieceDone::Built)
 }
 

@@ -100,7 +100,7 @@ pub(crate) fn take<D: Device>(alloc: Global, store: &mut Store<D>, way: Way) -> 
     ensures { IsUpkept store.old store.new }
 {
     match next_step(alloc, store, way) {
-        Ok(Some(step)) => told(finish_step(alloc, store, step)),
+        Ok(Some(step)) => told(finish_step(store, step)),
         Ok(None) => Went::ToTheEnd,
         Err(_) => Went::Nowhere,
     }

@@ -3,7 +3,6 @@
 
 use lsm_codec::{Batch, Guard, Key, Op};
 use lsm_device::{MemDevice, Refusal};
-use lsm_merge::build_here;
 use lsm_open::format;
 use lsm_policy::Policy;
 use lsm_store::{At, Choice, Page, Store};
@@ -211,10 +210,8 @@ impl Subject {
         let taken = self.store.job_take_of(choice).expect(rt, "an answer")?;
         let job = taken.number;
         let unread = self.store.job_read(job).expect(rt, "a read");
-        let input = self.store.job_input(job).expect(rt, "an input");
         let divisions = keys_of(rt, self.alloc, keys);
-        let built = build_here(self.alloc, input, divisions).expect(rt, "a result");
-        self.store.job_accept(job, &built).expect(rt, "room");
+        self.store.job_merge(job, divisions).expect(rt, "room");
         let unwritten = self.store.job_write(job).expect(rt, "a write");
         assert!(rt; (unread, unwritten) == (0, 0), "{job}: blocks are left");
         self.store.job_install(job).expect(rt, "an install");

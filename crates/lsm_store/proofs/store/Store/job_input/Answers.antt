@@ -12,5 +12,5 @@ pub returns : goal.returns
 returns g c = record {
   works =
       subst (λ (v : StoreView). Works v (Ask c.args.job) (reply_of (λ (input : Arc MergeInput g.row.A.Denot). Handed (arc_value input)) c.input.result) v) c.self.view_is
-      (c.input.ensures (g.D.Device.medium c.self.inside.device) c.self.inside.cache);
+      (c.input.ensures.works (g.D.Device.medium c.self.inside.device) c.self.inside.cache);
 }
