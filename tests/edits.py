@@ -198,7 +198,7 @@ class Report:
         text = self.file.read_text(encoding="utf-8", errors="replace") if self.file else None
         if text is None or re.search(r"(?m)^\d+ passed, \d+ failed$", text):
             return False
-        return bool(libraries - {*re.findall(r"(?m)^rt: (\w+) (?:proved|NOT PROVED)", text)})
+        return bool(libraries - {*re.findall(r"(?m)^rt: (\w+) (?:proved|NOT PROVED|is kept)", text)})
 
     def wait(self, libraries: set[str]) -> None:
         while self.waits(libraries):

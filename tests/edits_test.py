@@ -243,6 +243,7 @@ class Runs(Bodies):
             ("rt: lsm_low: its tests are proved\nrt: lsm_lower proved\n", True),
             ("== lsm_low\nlogic=proved\nrt: lsm_low proved\n", False),
             ("rt: lsm_low NOT PROVED: its library lsm_lower failed\n", False),
+            ("rt: lsm_low is kept: an earlier run on this machine proved the same files over the same libraries\n", False),
             ("rt: FAILED: lsm_low\n3 passed, 1 failed\n", False),
         ]:
             file.write_text(text)
