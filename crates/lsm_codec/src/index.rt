@@ -5,6 +5,7 @@ ghost use Rattle.lsm_codec.specs.Spelling.{IsDecoded};
 ghost use Rattle.lsm_codec.specs.Answers.{UnlessNoMemory};
 ghost use Rattle.lsm_codec.specs.Indexes.{IsEdge, IsIndex, index_length, index_blocks, index_of};
 
+use crate::head::{common_prefix, head_of};
 use crate::key::Key;
 use crate::records::{read_all, write_all};
 use crate::superblock::FormatVersion;
@@ -18,6 +19,8 @@ use std::marker::Model;
 pub struct Edge<A: Allocator = Global> {
     key: Key<A>,
     number: u64,
+    // What an index guesses by.
+    head: u64,
 }
 
 impl<A: Allocator> Model for Edge<A> {
@@ -39,6 +42,7 @@ impl<A: Allocator> Edge<A> {
         Ok(Edge {
             key: Key::from_slice(alloc, key)?,
             number,
+            head: 0,
         })
     }
 
@@ -48,6 +52,13 @@ impl<A: Allocator> Edge<A> {
         ensures fits { IsEdge self.now }
     {
         self.key.as_slice()
+    }
+
+    // Notes the number of its key behind so many bytes.
+    fn note_head(&mut self, past: usize)
+        ensures { self.new ≡ self.old }
+    {
+        self.head = head_of(self.key.as_slice(), past);
     }
 
     /// The number of the last version of the block.
@@ -63,6 +74,8 @@ impl<A: Allocator> Edge<A> {
 pub struct Index<A: Allocator = Global> {
     edges: Vec<Edge<A>, A>,
     text_len: usize,
+    // How many bytes all keys begin with alike.
+    past: usize,
 }
 
 impl<A: Allocator> Model for Index<A> {
@@ -84,6 +97,7 @@ impl<A: Allocator> Index<A> {
         Index {
             edges: Vec::new(alloc),
             text_len: 0,
+            past: 0,
         }
     }
 
@@ -106,12 +120,33 @@ impl<A: Allocator> Index<A> {
         &self.edges
     }
 
+    /// How many of the edges come before a key, as far as eight bytes of each tell. It is a guess: no clause says that it is right.
+    pub fn guess(&self, key: &[u8]) -> usize {
+        let head = head_of(key, self.past);
+        self.edges
+            .partition_point(|edge: &Edge<A>| edge.head < head)
+    }
+
     /// The bytes of the index's text, 10 to 264 for each block.
     pub fn text_len(&self) -> usize
         ensures { result ≡ index_length self.now }
     {
         self.text_len
     }
+}
+
+/// Notes in each edge what an index guesses by, and tells how many bytes all keys begin with alike.
+fn note_heads<A: Allocator>(edges: &mut Vec<Edge<A>, A>) -> usize
+    ensures { edges.new.items ≡ edges.old.items }
+{
+    let past = match (edges.first(), edges.last()) {
+        (Some(first), Some(last)) => common_prefix(first.key(), last.key()),
+        _ => 0,
+    };
+    for i in 0..edges.len() {
+        edges[i].note_head(past);
+    }
+    past
 }
 
 impl<A: Allocator + Clone> Index<A> {
@@ -137,7 +172,13 @@ impl<A: Allocator + Clone> Index<A> {
             Some((edges, rest)) => {
                 let text_len = blocks.len() - rest.len();
                 if is_padding(rest, text_len, 4_096) {
-                    Ok(Some(Index { edges, text_len }))
+                    let mut edges = edges;
+                    let past = note_heads(&mut edges);
+                    Ok(Some(Index {
+                        edges,
+                        text_len,
+                        past,
+                    }))
                 } else {
                     Ok(None)
                 }

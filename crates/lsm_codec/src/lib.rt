@@ -14,6 +14,7 @@ mod gathered;
 mod geometry;
 mod greatest;
 mod guard;
+mod head;
 mod index;
 mod key;
 mod kind;
@@ -47,6 +48,7 @@ pub use geometry::{
 };
 pub use greatest::LAST_NUMBER;
 pub use guard::Guard;
+pub use head::{common_prefix, head_of};
 pub use index::{Edge, Index};
 pub use key::Key;
 pub use lending::is_zero;

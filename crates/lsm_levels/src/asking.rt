@@ -52,6 +52,6 @@ pub(crate) fn asked_of_run<A: Allocator>(run: &Run<A>, query: &Query<'_>) -> Opt
     requires { AllByRecursion (LiesWithin (2 ^ 32) query.now.area) run.now }
     ensures { result ≡ asked_of_run query.now.area query.now.key.now query.now.at run.now }
 {
-    let table = covering(run.tables(), query.key)?;
+    let table = covering(run, query.key)?;
     asked_of_table(table, query)
 }

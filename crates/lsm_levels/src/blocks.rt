@@ -8,7 +8,7 @@ ghost use Rattle.lsm_levels.specs.Stored.{LiesWithin};
 ghost use Rattle.lsm_levels.specs.Tables.{IsRun, at_most};
 
 use crate::placed::PlacedBlock;
-use crate::slices::ending_from;
+use crate::run::Run;
 use crate::table::PlacedTable;
 use lsm_cache::BlockName;
 use std::alloc::Allocator;
@@ -64,12 +64,11 @@ impl<'a, A: Allocator> Model for Blocks<'a, A> {
 
 impl<'a, A: Allocator> Blocks<'a, A> {
     /// The data blocks of a run without those before the one that may have the first version from a key on.
-    pub(crate) fn from_key(run: &'a [PlacedTable<A>], area: u32, key: &[u8]) -> Blocks<'a, A>
-        requires run { IsRun run.now }
+    pub(crate) fn from_key(run: &'a Run<A>, area: u32, key: &[u8]) -> Blocks<'a, A>
         requires within { AllByRecursion (LiesWithin (2 ^ 32) area) run.now }
         ensures { result ≡ blocks_from_key area key.now run.now }
     {
-        let tables = ending_from(run, key);
+        let tables = run.ending_from(key);
         Blocks {
             tables,
             passed: passed_blocks(tables, key),

@@ -279,7 +279,7 @@ impl<'a, A: Allocator> RunCursor<'a, A> {
             (record { cache = cache.old; medium = D.medium device.old })
             (record { cache = cache.new; medium = D.medium device.new }) }
     {
-        let blocks = Blocks::from_key(run.tables(), area, from);
+        let blocks = Blocks::from_key(run, area, from);
         let mut cursor = RunCursor::before(alloc, blocks)?;
         cursor.start(from, cache, device)?;
         Ok(cursor)

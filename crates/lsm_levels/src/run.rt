@@ -3,8 +3,9 @@
 ghost use Rattle.std.specs.Prelude.{◌≡◌, ◌↔◌, ◌&&◌, [], is_ok, if◌then◌else◌, filter, true, IsTrue};
 ghost use Rattle.lsm_levels.specs.Tables.{IsRun, KeyRange, at_most, is_before_first, meets, put_at};
 
-use crate::slices::{count_before, count_up_to, cut, meeting, splice};
+use crate::slices::{count_before, count_up_to, cut, ending_from, meeting, splice};
 use crate::table::PlacedTable;
+use lsm_codec::{common_prefix, head_of};
 use std::alloc::{AllocError, Allocator, Global};
 use std::marker::Model;
 
@@ -32,10 +33,26 @@ pub fn is_run<A: Allocator>(tables: &[PlacedTable<A>]) -> bool
     true
 }
 
+/// Notes in each table what a run guesses by, and tells how many bytes all of its keys begin with alike.
+fn note_heads<A: Allocator>(tables: &mut Vec<PlacedTable<A>, A>) -> usize
+    ensures { tables.new.items ≡ tables.old.items }
+{
+    let past = match (tables.first(), tables.last()) {
+        (Some(first), Some(last)) => common_prefix(first.first(), last.last()),
+        _ => 0,
+    };
+    for i in 0..tables.len() {
+        tables[i].note_head(past);
+    }
+    past
+}
+
 /// A run: tables of which each ends before the next begins.
 #[derive(Drop)]
 pub struct Run<A: Allocator = Global> {
     tables: Vec<PlacedTable<A>, A>,
+    // How many bytes the keys of all tables begin with alike.
+    past: usize,
 }
 
 impl<A: Allocator> Model for Run<A> {
@@ -56,6 +73,7 @@ impl<A: Allocator> Run<A> {
     {
         Run {
             tables: Vec::new(alloc),
+            past: 0,
         }
     }
 
@@ -64,7 +82,24 @@ impl<A: Allocator> Run<A> {
         requires { IsRun tables.items }
         ensures { result ≡ tables.items }
     {
-        Run { tables }
+        let mut tables = tables;
+        let past = note_heads(&mut tables);
+        Run { tables, past }
+    }
+
+    // How many of the tables end before a key, as far as eight bytes of their last keys tell.
+    fn guess(&self, key: &[u8]) -> usize {
+        let head = head_of(key, self.past);
+        self.tables
+            .partition_point(|table: &PlacedTable<A>| table.head() < head)
+    }
+
+    /// The tables that end at a key or after it.
+    pub(crate) fn ending_from(&self, key: &[u8]) -> &[PlacedTable<A>]
+        ensures left { result.now ≡ filter (λ t. at_most key.now t.last) self.now }
+        ensures run { IsRun self.now }
+    {
+        ending_from(&self.tables, key, self.guess(key))
     }
 
     /// The tables, in the order of keys.
@@ -80,7 +115,7 @@ impl<A: Allocator> Run<A> {
         ensures { result.now ≡ filter (meets (record { first = first.now; last = last.now }))
             self.now }
     {
-        meeting(&self.tables, first, last)
+        meeting(&self.tables, first, last, self.guess(first))
     }
 
     /// Puts tables in the place of those that meet a range. Where memory is refused, both are as they were.
@@ -102,7 +137,9 @@ impl<A: Allocator> Run<A> {
     {
         let start = count_before(&self.tables, first);
         let end = count_up_to(&self.tables, last);
-        splice(&mut self.tables, start, end, new)
+        let replaced = splice(&mut self.tables, start, end, new);
+        self.past = note_heads(&mut self.tables);
+        replaced
     }
 
     /// Removes the tables that meet a range. It takes no memory.
@@ -115,5 +152,6 @@ impl<A: Allocator> Run<A> {
         let start = count_before(&self.tables, first);
         let end = count_up_to(&self.tables, last);
         cut(&mut self.tables, start, end);
+        self.past = note_heads(&mut self.tables);
     }
 }

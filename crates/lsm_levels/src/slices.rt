@@ -1,8 +1,8 @@
 //! Parts of a run, found by binary search.
 
-ghost use Rattle.std.specs.Prelude.{◌≡◌, ◌≤◌, ◌+◌, ◌++◌, [], length, filter, take, drop, is_ok, if◌then◌else◌, option_map};
+ghost use Rattle.std.specs.Prelude.{◌≡◌, ◌≤◌, ◌<◌, ◌+◌, ◌-◌, ℕ, true, false, slice_index_or, ◌++◌, [], length, filter, take, drop, is_ok, if◌then◌else◌, option_map};
 ghost use Rattle.std.specs.Vec.{vec_len};
-ghost use Rattle.lsm_levels.specs.Tables.{IsRun, KeyRange, at_most, hull, is_below, meets};
+ghost use Rattle.lsm_levels.specs.Tables.{IsRun, KeyRange, Table, at_most, hull, is_below, meets};
 
 use crate::table::PlacedTable;
 use std::alloc::{AllocError, Allocator};
@@ -27,27 +27,71 @@ pub(crate) fn count_up_to<A: Allocator>(run: &[PlacedTable<A>], key: &[u8]) -> u
     run.partition_point(|t: &PlacedTable<A>| t.begins_by(key))
 }
 
-/// The tables of a run that end at a key or after it.
+/// Whether the table before a place ends before a key, if there is one.
+fn is_passed<A: Allocator>(run: &[PlacedTable<A>], key: &[u8], place: usize) -> bool
+    requires { place ≤ length run.now }
+    ensures { result ≡ true → (d : Table) → 0 < place
+        → is_below (slice_index_or run.now (place - 1) d).last key.now ≡ true }
+{
+    if place == 0 {
+        return true;
+    }
+    run[place - 1].ends_before(key)
+}
+
+/// Whether the table at a place doesn't, if there is one.
+fn is_left<A: Allocator>(run: &[PlacedTable<A>], key: &[u8], place: usize) -> bool
+    ensures { result ≡ true → (d : Table) → place < length run.now
+        → is_below (slice_index_or run.now place d).last key.now ≡ false }
+{
+    if place >= run.len() {
+        return true;
+    }
+    !run[place].ends_before(key)
+}
+
+/// Whether the tables before a place end before a key, and the others don't.
+fn is_place<A: Allocator>(run: &[PlacedTable<A>], key: &[u8], place: usize) -> bool
+    requires { IsRun run.now }
+    ensures bound { result ≡ true → place ≤ length run.now }
+    ensures left { result ≡ true
+        → drop place run.now ≡ filter (λ t. at_most key.now t.last) run.now }
+{
+    if place > run.len() {
+        return false;
+    }
+    if !is_passed(run, key, place) {
+        return false;
+    }
+    is_left(run, key, place)
+}
+
+/// The tables of a run that end at a key or after it, which are looked for at a guess first.
 pub(crate) fn ending_from<'a, A: Allocator>(
     run: &'a [PlacedTable<A>],
     key: &[u8],
+    guess: usize,
 ) -> &'a [PlacedTable<A>]
     requires { IsRun run.now }
     ensures { result.now ≡ filter (λ t. at_most key.now t.last) run.now }
 {
+    if is_place(run, key, guess) {
+        return &run[guess..];
+    }
     &run[count_before(run, key)..]
 }
 
-/// The tables of a run that meet the range from a key to another.
+/// The tables of a run that meet the range from a key to another. Where the first of them is, is guessed.
 pub(crate) fn meeting<'a, A: Allocator>(
     run: &'a [PlacedTable<A>],
     first: &[u8],
     last: &[u8],
+    guess: usize,
 ) -> &'a [PlacedTable<A>]
     requires { IsRun run.now }
     ensures { result.now ≡ filter (meets (record { first = first.now; last = last.now })) run.now }
 {
-    let rest = ending_from(run, first);
+    let rest = ending_from(run, first, guess);
     &rest[..count_up_to(rest, last)]
 }
 

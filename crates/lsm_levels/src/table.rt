@@ -12,7 +12,7 @@ ghost use Rattle.lsm_levels.specs.Sizes.{AreAtMost};
 ghost use Rattle.lsm_levels.specs.Tables.{at_most, is_below, meets, table_at, table_of, record_of, outline_opened};
 
 use crate::contents::Contents;
-use lsm_codec::TableRecord;
+use lsm_codec::{TableRecord, head_of};
 use lsm_device::Refusal;
 use lsm_table::laws::outline_law;
 use lsm_table::{Image, Table};
@@ -50,6 +50,8 @@ impl<A: Allocator> Model for Placed<A> {
 #[derive(Drop)]
 pub struct PlacedTable<A: Allocator = Global> {
     shared: Arc<Placed<A>, A>,
+    // What a run guesses by.
+    head: u64,
 }
 
 impl<A: Allocator> Model for PlacedTable<A> {
@@ -133,7 +135,7 @@ impl<A: Allocator> PlacedTable<A> {
             contents,
         };
         let shared = Arc::new(alloc, placed)?;
-        Ok(PlacedTable { shared })
+        Ok(PlacedTable { shared, head: 0 })
     }
 
     /// Opens the table that a manifest lists, from its footer block, index blocks and filter block, with `deletes` deletes and
@@ -238,7 +240,22 @@ impl<A: Allocator> PlacedTable<A> {
         ensures { IfOk result (λ t. t ≡ self.now) }
     {
         let shared = Arc::try_clone(&self.shared)?;
-        Ok(PlacedTable { shared })
+        Ok(PlacedTable {
+            shared,
+            head: self.head,
+        })
+    }
+
+    /// Notes the number of its last key behind so many bytes.
+    pub(crate) fn note_head(&mut self, past: usize)
+        ensures { self.new ≡ self.old }
+    {
+        self.head = head_of(self.last(), past);
+    }
+
+    /// The number that was noted.
+    pub(crate) fn head(&self) -> u64 {
+        self.head
     }
 
     /// What footer, index and filter tell of it.

@@ -1,6 +1,8 @@
 //! The edges of blocks, and places among them.
 
-ghost use Rattle.std.specs.Prelude.{◌≡◌, ◌++◌, ◌<◌, ◌≤◌, length, map, true, IfOk, IfSome, OnOk};
+ghost use Rattle.std.specs.Prelude.{◌≡◌, ◌++◌, ◌<◌, ◌≤◌, ◌-◌, length, slice_index_or, map, true, false, IfOk, IfSome, OnOk};
+ghost use Rattle.std.specs.List.Sorted.{IsPartitionPoint};
+ghost use Rattle.lsm_codec.specs.Indexes.{Edge as EdgeValue};
 ghost use Rattle.lsm_table.specs.BlockEdges.{edge_of, edges_of, last_key, is_edge_before, are_rising};
 ghost use Rattle.lsm_table.specs.Places.{stands_before, place_from, blocks_before};
 
@@ -61,13 +63,69 @@ fn stands_before<A: Allocator>(edge: &Edge<A>, key: &[u8], at: u64) -> bool
     }
 }
 
-/// The first block whose edge doesn't come before the key's version numbered `at`.
-pub(crate) fn place_in<A: Allocator>(edges: &[Edge<A>], key: &[u8], at: u64) -> Option<usize>
+/// Whether the edge before a place comes before the key's version numbered `at`, if there is one.
+fn is_passed<A: Allocator>(edges: &[Edge<A>], key: &[u8], at: u64, place: usize) -> bool
+    requires { place ≤ length edges.now }
+    ensures { result ≡ true → (d : EdgeValue) → 0 < place
+        → stands_before key.now at (slice_index_or edges.now (place - 1) d) ≡ true }
+{
+    if place == 0 {
+        return true;
+    }
+    stands_before(&edges[place - 1], key, at)
+}
+
+/// Whether the edge at a place doesn't, if there is one.
+fn is_left<A: Allocator>(edges: &[Edge<A>], key: &[u8], at: u64, place: usize) -> bool
+    ensures { result ≡ true → (d : EdgeValue) → place < length edges.now
+        → stands_before key.now at (slice_index_or edges.now place d) ≡ false }
+{
+    if place >= edges.len() {
+        return true;
+    }
+    !stands_before(&edges[place], key, at)
+}
+
+/// Whether the edges before a place come before the key's version numbered `at`, and the others don't.
+fn is_place<A: Allocator>(edges: &[Edge<A>], key: &[u8], at: u64, place: usize) -> bool
+    requires { are_rising edges.now ≡ true }
+    ensures { result ≡ true
+        → IsPartitionPoint (λ e. stands_before key.now at e ≡ true)
+        (λ e. stands_before key.now at e ≡ false) edges.now place }
+{
+    if place > edges.len() {
+        return false;
+    }
+    if !is_passed(edges, key, at, place) {
+        return false;
+    }
+    is_left(edges, key, at, place)
+}
+
+/// How many edges come before the key's version numbered `at`, which is looked for at a guess first.
+fn edges_before<A: Allocator>(edges: &[Edge<A>], key: &[u8], at: u64, guess: usize) -> usize
+    requires { are_rising edges.now ≡ true }
+    ensures { IsPartitionPoint (λ e. stands_before key.now at e ≡ true)
+        (λ e. stands_before key.now at e ≡ false) edges.now result }
+{
+    if is_place(edges, key, at, guess) {
+        return guess;
+    }
+    edges.partition_point(|edge: &Edge<A>| stands_before(edge, key, at))
+}
+
+/// The first block whose edge doesn't come before the key's version numbered `at`, which is looked for at a guess first.
+pub(crate) fn place_in<A: Allocator>(
+    edges: &[Edge<A>],
+    key: &[u8],
+    at: u64,
+    guess: usize,
+) -> Option<usize>
     requires { are_rising edges.now ≡ true }
     ensures place { result ≡ place_from 0 key.now at edges.now }
     ensures inside { IfSome result (λ block. block < length edges.now) }
 {
-    let block = edges.partition_point(|edge: &Edge<A>| stands_before(edge, key, at));
+    let block = edges_before(edges, key, at, guess);
     if block < edges.len() {
         Some(block)
     } else {

@@ -189,6 +189,6 @@ impl<A: Allocator> Table<A> {
         if at == 0 || self.first.as_slice().cmp(key).is_gt() {
             return None;
         }
-        place_in(self.index.edges(), key, at)
+        place_in(self.index.edges(), key, at, self.index.guess(key))
     }
 }

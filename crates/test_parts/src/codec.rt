@@ -1,6 +1,7 @@
 //! Tests of the formats.
 
 pub mod batches;
+mod guesses;
 mod manifest_tables;
 pub mod manifests;
 mod sectors;

@@ -1,15 +1,17 @@
-use Rattle.std.proofs.Common.{◌≡◌, ◌+◌, ◌-◌, ℕ, Bool, true, List, length, drop, ap, subst, ◌∙◌, arith}
+use Rattle.std.proofs.Common.{◌≡◌, ◌+◌, ◌-◌, ℕ, Bool, true, List, length, drop, refl, ap, sym, subst, ◌∙◌, arith}
 use Rattle.std.specs.Prelude.{slice_set}
 use Rattle.std.proofs.lemmas.List.{length-set}
 use Rattle.std.proofs.lemmas.Result.{err_from_is_err_and}
 use Rattle.lsm_device.specs.Disk.{seen}
 use Rattle.lsm_device.specs.Medium.{disk}
 use Rattle.lsm_device.specs.Refusals.{faultless}
+use Rattle.lsm_device.specs.declared.refusal.Refusal.{Refusal}
 use Rattle.lsm_levels.specs.Levels.{Levels}
 use Rattle.lsm_levels.specs.Tables.{Table}
 use Rattle.lsm_open.specs.ToldTables.{blocks_beside_data, beside_data_from, run_records, IsRunRead, AreRunsRead, ReadsBlocks}
-use Rattle.lsm_open.proofs.BlockReads.{reads_then}
-use Rattle.lsm_open.proofs.RunCounts.{run_before, run_put, run_counted, fewer_from}
+use Rattle.lsm_open.proofs.BlockReads.{nothing_read, reads_then}
+use Rattle.lsm_open.proofs.RunCounts.{run_before, run_put, run_counted, fewer_from, refused_before}
+use Rattle.lsm_open.proofs.ToldRuns.{level_refused}
 use Rattle.lsm_open.proofs.tables.read_deeper.Goals as goal
 
 pub returns-in_err-run-clause-device : goal.returns-in_err-run-clause-device
@@ -67,3 +69,30 @@ loop-done-preserved g c =
       read = subst (λ (j : ℕ). AreRunsRead n tells S m j (drop (4 - (i + 1)) c.set_level.new.self.deeper)) there
           (subst (λ (j : ℕ). AreRunsRead n tells S m k (drop j c.set_level.new.self.deeper)) place (rw put read));
     }
+
+pub loop-done-init : goal.loop-done-init
+loop-done-init g c =
+    let m = g.D.Device.medium c.args.device.now in
+    let S = seen (disk m) in
+    let from = c.args.manifest.now.runs + 4 in
+    record {
+      same_size = refl;
+      device = reads_then 0 0 (beside_data_from c.args.manifest.now from) true m m m (omega arith) (nothing_read m) (nothing_read m);
+      runs_are = c.runs-runs.ensures;
+      none = ap (λ (l : Levels). l.runs) c.in_ok-levels.ensures;
+      four = ap (λ (l : Levels). length l.deeper) c.in_ok-levels.ensures;
+      read = subst (λ (l : Levels). AreRunsRead c.args.log_sectors m.lasting.tells S c.args.manifest.now from (drop 4 l.deeper)) (sym c.in_ok-levels.ensures) tt;
+    }
+
+pub returns-in_err-run-clause-none : goal.returns-in_err-run-clause-none
+returns-in_err-run-clause-none g c = λ t.
+    let D = g.D.Device in
+    let p = err_from_is_err_and c.from_residual-in_err-run.result c.from_residual-in_err-run.ensures.1 in
+    let inv = c.loop-done.invariant in
+    let m = c.args.manifest.now in
+    let n = c.args.log_sectors in
+    let k = c.runs-runs.result + (3 - c.loop-done.done) in
+    let old = D.medium c.args.device.now in
+    let mid = D.medium c.loop-done.device in
+    let e : Refusal = c.in_err-run.field-0.0 in
+    rw (p.1, p.2) (level_refused n (seen (disk old)) m k e (omega (arith, inv.runs_are)) (refused_before n old mid m k e inv.device.only_reads c.in_err-run.ensures.none t))

@@ -1,4 +1,4 @@
-use Rattle.std.proofs.Common.{sym, arith, refl}
+use Rattle.std.proofs.Common.{Some, sym, arith, refl, ap, ◌∙◌}
 use Rattle.lsm_codec.specs.Keys.{IsBytes}
 use Rattle.lsm_codec.proofs.IndexLaws.{index_of_exact, rest_shorter, used_within, whole, not_whole, unread}
 use Rattle.lsm_codec.proofs.index.Index.decode.Goals as goal
@@ -13,7 +13,7 @@ pub returns-then-is_padding-clause-answer : goal.returns-then-is_padding-clause-
 returns-then-is_padding-clause-answer g c =
     let bytes : IsBytes c.args.blocks.now = record { fit = λ i. omega (arith, c.type_inv.blocks i) } in
     let read = rw c.in-Some.is at c.in_ok-edges.ensures in
-    whole c.args.count c.args.blocks.now bytes c.in-Some.edges.items c.in-Some.rest.now (sym read) (c.if-is_padding.ensures.0 refl)
+    ap Some c.note_heads-past.ensures ∙ whole c.args.count c.args.blocks.now bytes c.in-Some.edges.items c.in-Some.rest.now (sym read) (c.if-is_padding.ensures.0 refl)
 
 pub returns-then-is_padding-clause-exact : goal.returns-then-is_padding-clause-exact
 returns-then-is_padding-clause-exact g c = index_of_exact c.args.count c.args.blocks.now
@@ -43,4 +43,4 @@ pub invariant_of-result : goal.invariant_of-result
 invariant_of-result g c =
     let bytes : IsBytes c.args.blocks.now = record { fit = λ i. omega (arith, c.type_inv.blocks i) } in
     let read = rw c.in-Some.is at c.in_ok-edges.ensures in
-    used_within c.args.count c.args.blocks.now bytes c.in-Some.edges.items c.in-Some.rest.now (sym read)
+    rw c.note_heads-past.ensures (used_within c.args.count c.args.blocks.now bytes c.in-Some.edges.items c.in-Some.rest.now (sym read))

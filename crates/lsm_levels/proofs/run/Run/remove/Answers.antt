@@ -1,4 +1,4 @@
-use Rattle.std.proofs.Common.{◌≡◌, [], sym, subst}
+use Rattle.std.proofs.Common.{◌≡◌, [], sym, subst, ◌∙◌}
 use Rattle.lsm_levels.specs.Tables.{IsRun, KeyRange, put_at}
 use Rattle.lsm_levels.proofs.Searching.{counts_in_order}
 use Rattle.lsm_levels.proofs.Runs.{run_without}
@@ -15,7 +15,7 @@ cut-requires-clause-order g c =
 
 pub returns-clause-removed : goal.returns-clause-removed
 returns-clause-removed g c =
-    removed (record { first = c.args.first.now; last = c.args.last.now }) c.cut.new.tables.items c.self.inside.tables.items c.args.self.now c.count_before-start.result c.count_up_to-end.result
+    c.note_heads-self-inside.ensures ∙ removed (record { first = c.args.first.now; last = c.args.last.now }) c.cut.new.tables.items c.self.inside.tables.items c.args.self.now c.count_before-start.result c.count_up_to-end.result
     (rw c.deref.ensures.value at c.count_before-start.ensures.passed)
     (rw c.deref-2.ensures.value at c.count_up_to-end.ensures.left)
     c.self.view_is
@@ -24,8 +24,8 @@ returns-clause-removed g c =
 pub returns-clause-stays : goal.returns-clause-stays
 returns-clause-stays g c =
     let range : KeyRange = record { first = c.args.first.now; last = c.args.last.now } in
-    let e : c.cut.new.tables.items ≡ put_at range [] c.args.self.now =
-    removed range c.cut.new.tables.items c.self.inside.tables.items c.args.self.now c.count_before-start.result c.count_up_to-end.result
+    let e : c.note_heads-self-inside.new.tables.items ≡ put_at range [] c.args.self.now =
+    c.note_heads-self-inside.ensures ∙ removed range c.cut.new.tables.items c.self.inside.tables.items c.args.self.now c.count_before-start.result c.count_up_to-end.result
     (rw c.deref.ensures.value at c.count_before-start.ensures.passed)
     (rw c.deref-2.ensures.value at c.count_up_to-end.ensures.left)
     c.self.view_is
@@ -35,8 +35,8 @@ returns-clause-stays g c =
 pub invariant_of-self : goal.invariant_of-self
 invariant_of-self g c =
     let range : KeyRange = record { first = c.args.first.now; last = c.args.last.now } in
-    let e : c.cut.new.tables.items ≡ put_at range [] c.args.self.now =
-    removed range c.cut.new.tables.items c.self.inside.tables.items c.args.self.now c.count_before-start.result c.count_up_to-end.result
+    let e : c.note_heads-self-inside.new.tables.items ≡ put_at range [] c.args.self.now =
+    c.note_heads-self-inside.ensures ∙ removed range c.cut.new.tables.items c.self.inside.tables.items c.args.self.now c.count_before-start.result c.count_up_to-end.result
     (rw c.deref.ensures.value at c.count_before-start.ensures.passed)
     (rw c.deref-2.ensures.value at c.count_up_to-end.ensures.left)
     c.self.view_is
