@@ -1,5 +1,5 @@
 -- Tables that stand, stand in the levels that were read.
-use Rattle.std.proofs.Common.{◌≡◌, ℕ, suc, ◌+◌, Bool, true, false, IsTrue, List, [], ◌∷◌, ◌++◌, length, map, All, Option, Some, None, refl, sym, ap, subst, ◌∙◌, arith}
+use Rattle.std.proofs.Common.{◌≡◌, ℕ, suc, ◌+◌, Bool, true, false, IsTrue, List, [], ◌∷◌, ◌++◌, length, map, All, Option, Some, None, sym, ap, subst, ◌∙◌, arith}
 use Rattle.std.specs.Prelude.{if◌then◌else◌}
 use Rattle.std.specs.List.{AllByRecursion}
 use Rattle.std.proofs.lemmas.List.{append-nil, length-append, map-append}
@@ -10,7 +10,7 @@ use Rattle.lsm_codec.specs.TableRecords.{IsOfVersion}
 use Rattle.lsm_codec.specs.Versions.{Version}
 use Rattle.lsm_codec.specs.declared.superblock.FormatVersion.TheVariants.{Two}
 use Rattle.lsm_codec.specs.declared.table_record.TableRecord.{TableRecord}
-use Rattle.lsm_levels.specs.Levels.{Levels, all_tables, places}
+use Rattle.lsm_levels.specs.Levels.{Levels, places}
 use Rattle.lsm_levels.specs.Orders.{IsNewerPlace, IsVersionOrder}
 use Rattle.lsm_levels.specs.Stored.{IsStored, AreStored}
 use Rattle.lsm_levels.specs.Tables.{Table, is_run, versions_of}

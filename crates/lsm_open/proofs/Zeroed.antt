@@ -1,5 +1,5 @@
 -- What stands on a device whose first sectors were zeroed.
-use Rattle.std.proofs.Common.{◌≡◌, ◌≢◌, ◌⊎◌, inl, inr, ⊎_elim, ◌≤◌, ◌<◌, ℕ, ◌+◌, ◌*◌, List, [], ◌∷◌, ◌++◌, length, drop, replicate, refl, sym, ◌∙◌, ap, subst, arith, lit≤}
+use Rattle.std.proofs.Common.{◌≡◌, ◌≢◌, ◌⊎◌, inl, inr, ⊎_elim, ◌≤◌, ◌<◌, ℕ, ◌+◌, ◌*◌, List, [], ◌++◌, length, drop, replicate, refl, sym, ◌∙◌, ap, subst, arith, lit≤}
 use Rattle.std.proofs.lemmas.Bool.{cases_lt}
 use Rattle.std.proofs.lemmas.List.{length-replicate, get_or-replicate, get_or_append_left}
 use Rattle.std.proofs.lemmas.List.Elements.{All-nil}
@@ -7,12 +7,10 @@ use Rattle.lsm_codec.specs.Formats.{blank}
 use Rattle.lsm_codec.specs.Manifests.{IsManifest, IsLogRecord, sector_count}
 use Rattle.lsm_codec.proofs.ManifestLaws.{length-manifest_text, manifest_text_most, no_tables_fit}
 use Rattle.lsm_device.specs.Disk.{Disk, Write, IsDisk, seen, synced}
-use Rattle.lsm_device.specs.History.{present, Becomes}
 use Rattle.lsm_device.specs.Memory.{length-written}
 use Rattle.lsm_device.specs.Runs.{run_at, grown}
-use Rattle.lsm_device.proofs.Moments.{now_is}
 use Rattle.lsm_device.proofs.Outcomes.{seen-grown}
-use Rattle.lsm_device.proofs.Runs.{run_more, run_whole, written-run_at}
+use Rattle.lsm_device.proofs.Runs.{written-run_at}
 use Rattle.lsm_root.specs.Roots.{Reading, Blank, reading_of, in_slot, newer, sector_at, superblock_in, Stands}
 use Rattle.lsm_root.specs.Installed.{IsNext, IsReady, IsInstalled, KeepsOthers}
 use Rattle.lsm_root.proofs.Readings.{zeros}

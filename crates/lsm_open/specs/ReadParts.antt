@@ -23,7 +23,7 @@ use Rattle.lsm_open.specs.Tables.{first_data, AreTables}
 use Rattle.lsm_open.specs.ToldTables.{told_levels, blocks_beside_data, AreOutlined, HaveNamed, Held, AreThose}
 use Rattle.lsm_root.specs.Installed.{IsNext}
 use Rattle.lsm_root.specs.Layout.{IsGeometry, LieInside}
-use Rattle.lsm_root.specs.Roots.{Root, Stands, superblock_in, root_of}
+use Rattle.lsm_root.specs.Roots.{Root, Stands, superblock_in}
 
 -- how many sectors an opening reads at most of a store with these tables, where it reads this number of data blocks: its root,
 -- footer, index and filter of each table, these blocks, and the log regions

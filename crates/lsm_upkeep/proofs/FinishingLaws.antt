@@ -1,17 +1,13 @@
 -- How a job goes on.
-use Rattle.std.proofs.Common.{◌≡◌, ◌+◌, ◌<◌, ◌≤◌, ◌-◌, ℕ, suc, Option, Some, None, Result, Ok, Err, MatchResult, List, inl, inr, ⊎_elim, refl, sym, subst, arith}
-use Rattle.lsm_codec.specs.Keys.{Bytes}
+use Rattle.std.proofs.Common.{◌≡◌, ◌+◌, ◌<◌, ◌≤◌, ◌-◌, ℕ, suc, Option, Some, None, Result, Ok, Err, MatchResult, inl, inr, refl, subst, arith}
 use Rattle.lsm_device.specs.declared.refusal.Refusal.{Refusal}
-use Rattle.lsm_merge.specs.Divisions.{AreTablesAt}
-use Rattle.lsm_merge.specs.Inputs.{kept_of}
 use Rattle.lsm_store.specs.Backing.{StoreView}
-use Rattle.lsm_machine.specs.Calls.{Reply, Number, Done, Given, Refused, reply_of, taken_reply}
+use Rattle.lsm_machine.specs.Calls.{Number, Done, Given, Refused, reply_of, taken_reply}
 use Rattle.lsm_machine.specs.Work.{Work, Take, Write, Install}
-use Rattle.lsm_store.specs.Merging.{IsMerged, RefusesMerge}
 use Rattle.lsm_store.specs.Working.{Works}
 use Rattle.lsm_jobs.specs.declared.taking.TakenJob.{TakenJob}
 use Rattle.lsm_levels.specs.declared.choosing.Choice.{Choice}
-use Rattle.lsm_upkeep.specs.Finishing.{LeavesBlocksEachTime, HasLeft, GoesThrough, DoesNotGoThrough, IsReadWhole, IsOffered, IsUnmerged, IsFinished, IsStuck, Taken}
+use Rattle.lsm_upkeep.specs.Finishing.{LeavesBlocksEachTime, HasLeft, GoesThrough, DoesNotGoThrough, IsReadWhole, IsOffered, IsFinished, IsStuck, Taken}
 use Rattle.lsm_upkeep.specs.Upkeep.{AreDone}
 
 -- ---- a piece that is done again and again
@@ -45,30 +41,6 @@ held_up-no_fewer piece left now old mid new some most h works = let one : left �
 -- it left none at last
 pub none-left : (piece : Work) (left : ℕ) (old new : StoreView) → left ≤ 0 → HasLeft piece left old new → GoesThrough piece old new
 none-left piece left old new none h = let zero_left : left ≡ 0 = omega (arith, none) in subst (λ (n : ℕ). HasLeft piece n old new) zero_left h
-
--- ---- a merge
-
--- what a merge by the store itself answers
-pub merged-answered : (job : ℕ) (divisions : List Bytes) (old new : StoreView) (r : Result (Unit {0}) Refusal)
-    → MatchResult r (λ _. IsMerged job divisions Done old new) (λ refusal. RefusesMerge job divisions refusal old new)
-    → MatchResult r (λ _. IsOffered job Done old new) (λ _. IsUnmerged job old new)
-merged-answered job divisions old new r answered = by r answered
-  where
-    offered : (reply : Reply) → IsMerged job divisions reply old new → IsOffered job reply old new
-    offered reply is = record {
-      input = is.input;
-      mid = old;
-      result = is.result;
-      lent = is.lent;
-      own = is.own;
-      made = subst (λ (keys : List Bytes). AreTablesAt keys (kept_of is.input) is.result.images) (sym is.divided) is.made;
-      offered = is.offered;
-    }
-
-    by : (r : Result (Unit {0}) Refusal) → MatchResult r (λ _. IsMerged job divisions Done old new) (λ refusal. RefusesMerge job divisions refusal old new)
-        → MatchResult r (λ _. IsOffered job Done old new) (λ _. IsUnmerged job old new)
-    by (Ok done) is = offered Done is
-    by (Err e) is = ⊎_elim (λ asked. inl (e, asked)) (λ later. inr (⊎_elim (λ short. inl (short.0, short.1)) (λ refused. inr (e, offered (Refused e) refused)) later)) is
 
 -- ---- the whole of a job
 

@@ -35,12 +35,12 @@ module _ (R : StoreView → StoreView → Type 0) (r : Goes R) where
   unread job (Some level) old new h = held_up (Read job) old new h
 
   pub offered : (job : ℕ) (reply : Reply) (old new : StoreView) → IsOffered job reply old new → R old new
-  offered job reply old new o = r.onward old o.mid new (r.works old o.mid (Ask job) _ o.lent) (r.works o.mid new (Accept job (Some o.result)) reply o.offered)
+  offered job reply old new (divisions, o) = r.onward old old new (r.works old old (Ask job) _ o.lent) (r.works old new (Accept job (Some o.result)) reply o.offered)
 
   pub unmerged : (job : ℕ) (old new : StoreView) → IsUnmerged job old new → R old new
-  unmerged job old new (inl (e, w)) = r.works old new (Ask job) _ w
-  unmerged job old new (inr (inl (input, w))) = r.works old new (Ask job) _ w
-  unmerged job old new (inr (inr (e, o))) = offered job (Refused e) old new o
+  unmerged job old new (divisions, e, inl w) = r.works old new (Ask job) _ w
+  unmerged job old new (divisions, e, inr (inl (input, w, none))) = r.works old new (Ask job) _ w
+  unmerged job old new (divisions, e, inr (inr o)) = offered job (Refused e) old new (divisions, o)
 
   finished : (job : ℕ) (level : Option ℕ) (old new : StoreView) → IsFinished job level old new → R old new
   finished job level old new f =

@@ -10,7 +10,7 @@ use Rattle.lsm_levels.specs.declared.choosing.Choice.{Choice}
 use Rattle.lsm_mem.specs.Sizes.{Covers}
 use Rattle.lsm_mem.specs.declared.size.MemSize.{MemSize}
 use Rattle.lsm_room.specs.Flushes.{FlushTakes}
-use Rattle.lsm_room.specs.Outputs.{FindsRoom, MakesAtMost}
+use Rattle.lsm_room.specs.Outputs.{MakesAtMost}
 use Rattle.lsm_room.specs.Taking.{AdvisesRoom, MayFollow, may_take}
 use Rattle.lsm_room.specs.declared.bounds.Outputs.{Outputs}
 use Rattle.lsm_room.specs.declared.stepping.Advice.{Advice}
@@ -18,7 +18,7 @@ use Rattle.lsm_room.specs.declared.stepping.Advice.TheVariants.{Take}
 use Rattle.lsm_room.specs.declared.stepping.Step.{Step}
 use Rattle.lsm_room.proofs.Making.{finds_room}
 use Rattle.lsm_store.specs.Backing.{StoreView}
-use Rattle.lsm_upkeep.specs.Lacking.{AreReckoned, FlushFindsRoom, HasStep, IsAdvised, jobs_of}
+use Rattle.lsm_upkeep.specs.Lacking.{AreReckoned, FlushFindsRoom, HasStep, IsAdvised}
 use Rattle.lsm_upkeep.specs.Writing.{is_live}
 
 -- what is advised of what stands in a store, is advised of the store

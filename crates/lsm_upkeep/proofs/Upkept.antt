@@ -1,5 +1,6 @@
 -- Upkeep, as steps.
-use Rattle.std.proofs.Common.{◌≡◌, ℕ, zero, suc, Bool, true, false, Option, Result, Ok, Err, MatchResult, refl, subst}
+use Rattle.std.proofs.Common.{◌≡◌, ℕ, zero, suc, Bool, true, false, Option, Result, Ok, Err, MatchResult, List, refl, subst}
+use Rattle.lsm_codec.specs.Keys.{Bytes}
 use Rattle.lsm_device.specs.declared.refusal.Refusal.{Refusal}
 use Rattle.lsm_levels.specs.declared.choosing.Choice.{Choice}
 use Rattle.lsm_store.specs.Backing.{StoreView}
@@ -7,9 +8,10 @@ use Rattle.lsm_machine.specs.Calls.{Reply, Number, Done, Rotate}
 use Rattle.lsm_machine.specs.Machine.{Step, Called, Worked}
 use Rattle.lsm_store.specs.Serving.{Serves}
 use Rattle.lsm_machine.specs.Work.{Work}
+use Rattle.lsm_store.specs.Merging.{IsMerged, RefusesMerge}
 use Rattle.lsm_store.specs.Working.{Works, ServesStep}
 use Rattle.lsm_upkeep.specs.Keeping.{KeepsMap}
-use Rattle.lsm_upkeep.specs.Finishing.{IsFinished, IsOffered, IsUndone, IsUnmerged, Taken}
+use Rattle.lsm_upkeep.specs.Finishing.{IsFinished, IsUndone, Taken}
 use Rattle.lsm_upkeep.specs.Steps.{IsUpkeepStep, IsUpkept, UpkeepSteps}
 use Rattle.lsm_upkeep.specs.Upkeep.{IsEasedIf, IsRotatedAt, OpensLog, Settles}
 use Rattle.lsm_upkeep.proofs.Jobs.{Goes, jobs, offered, taken, undone, unmerged}
@@ -51,9 +53,10 @@ pub one_less : (asked : Option Choice) (old new : StoreView) → IsUndone asked 
 one_less asked old new u = undone IsUpkept upkept_goes asked old new u
 
 -- a result of a job was built and accepted, or not
-pub merged : {T : Type 0} (job : ℕ) (old new : StoreView) (r : Result T Refusal) → MatchResult r (λ _. IsOffered job Done old new) (λ _. IsUnmerged job old new) → IsUpkept old new
-merged job old new (Ok x) is = offered IsUpkept upkept_goes job Done old new is
-merged job old new (Err e) is = unmerged IsUpkept upkept_goes job old new is
+pub merged : {T : Type 0} (job : ℕ) (divisions : List Bytes) (old new : StoreView) (r : Result T Refusal)
+    → MatchResult r (λ _. IsMerged job divisions Done old new) (λ refusal. RefusesMerge job divisions refusal old new) → IsUpkept old new
+merged job divisions old new (Ok x) is = offered IsUpkept upkept_goes job Done old new (divisions, is)
+merged job divisions old new (Err e) is = unmerged IsUpkept upkept_goes job old new (divisions, e, is)
 
 -- one that was asked for, finished or not
 pub asked_for : (asked : Option Choice) (done : Bool) (old new : StoreView) → (done ≡ true → Taken IsFinished asked old new) → (done ≡ false → IsUndone asked old new) → IsUpkept old new

@@ -1,13 +1,12 @@
 -- How a job is taken and finished.
-use Rattle.std.specs.Prelude.{◌≡◌, ◌≤◌, ◌⊎◌, ℕ, zero, suc, Option, Some, None}
+use Rattle.std.specs.Prelude.{◌≡◌, ◌≤◌, ◌⊎◌, ℕ, zero, suc, List, Option, Some, None}
+use Rattle.lsm_codec.specs.Keys.{Bytes}
 use Rattle.lsm_device.specs.declared.refusal.Refusal.{Refusal}
-use Rattle.lsm_merge.specs.Divisions.{AreTablesAt}
-use Rattle.lsm_merge.specs.Inputs.{MergeInput, kept_of}
-use Rattle.lsm_merge.specs.Results.{MergeResult}
 use Rattle.lsm_store.specs.Backing.{StoreView}
 use Rattle.lsm_levels.specs.declared.choosing.Choice.{Choice}
-use Rattle.lsm_machine.specs.Calls.{Reply, Number, Done, Given, Handed, Refused}
-use Rattle.lsm_machine.specs.Work.{Work, Take, Read, Ask, Accept, Write, Install, Drop}
+use Rattle.lsm_machine.specs.Calls.{Reply, Number, Done, Given, Refused}
+use Rattle.lsm_machine.specs.Work.{Work, Take, Read, Write, Install, Drop}
+use Rattle.lsm_store.specs.Merging.{IsMerged, RefusesMerge}
 use Rattle.lsm_store.specs.Working.{Works}
 
 -- a piece of work was refused
@@ -56,19 +55,13 @@ abbrev pub IsUnread : ℕ → Option ℕ → StoreView → StoreView → Type 0
 IsUnread job None old new = ⊥
 IsUnread job (Some level) old new = DoesNotGoThrough (Read job) old new
 
--- The job's input was lent, and the result of a merge of it was answered so.
-pub record IsOffered (job : ℕ) (reply : Reply) (old new : StoreView) : Type 0 where
-  pub input : MergeInput
-  pub mid : StoreView
-  pub result : MergeResult
-  pub lent : Works old (Ask job) (Handed input) mid
-  pub own : result.input ≡ input
-  pub made : AreTablesAt result.divisions (kept_of input) result.images
-  pub offered : Works mid (Accept job (Some result)) reply new
+-- a result of the job was made and answered so, wherever it is divided
+abbrev pub IsOffered : ℕ → Reply → StoreView → StoreView → Type 0
+IsOffered job reply old new = (divisions : List Bytes) × IsMerged job divisions reply old new
 
--- no result was accepted: the input was not lent, or no result was made of it, which comes of want of memory, or it was refused
+-- no result of it was accepted
 abbrev pub IsUnmerged : ℕ → StoreView → StoreView → Type 0
-IsUnmerged job old new = IsRefused (Ask job) old new ⊎ (((input : MergeInput) × Works old (Ask job) (Handed input) new) ⊎ ((e : Refusal) × IsOffered job (Refused e) old new))
+IsUnmerged job old new = (divisions : List Bytes) × (refusal : Refusal) × RefusesMerge job divisions refusal old new
 
 -- A job was read, its result was accepted, its outputs were written, and they were installed.
 pub record IsFinished (job : ℕ) (level : Option ℕ) (old new : StoreView) : Type 0 where

@@ -1,9 +1,8 @@
 //! One job, taken and finished.
 
 ghost use Rattle.std.specs.Prelude.{◌≡◌, true, false, Some, None, MatchResult};
-ghost use Rattle.lsm_machine.specs.Calls.{Done};
 ghost use Rattle.lsm_machine.specs.Work.{Read, Write};
-ghost use Rattle.lsm_upkeep.specs.Finishing.{GoesThrough, IsFinished, IsGivenUp, DoesNotGoThrough, IsOffered, IsReadWhole, IsStuck, IsUndone, IsUnmerged, IsUnread, Taken};
+ghost use Rattle.lsm_upkeep.specs.Finishing.{GoesThrough, IsFinished, IsGivenUp, DoesNotGoThrough, IsReadWhole, IsStuck, IsUndone, IsUnread, Taken};
 
 use lsm_codec::Key;
 use lsm_device::{Device, Refusal};
@@ -57,7 +56,7 @@ fn finish<D: Device>(
         (λ _. IsStuck taken.number taken.level store.old store.new) }
 {
     read(store, taken)?;
-    merge(store, taken.number, divisions)?;
+    store.job_merge(taken.number, divisions)?;
     write(store, taken.number)?;
     store.job_install(taken.number)
 }
@@ -86,18 +85,6 @@ fn read_tables<D: Device>(store: &mut Store<D>, job: u64) -> Result<(), Refusal>
         left = now;
     }
     Ok(())
-}
-
-/// Merges what was read, and divides it.
-pub(crate) fn merge<D: Device>(
-    store: &mut Store<D>,
-    job: u64,
-    divisions: Vec<Key>,
-) -> Result<(), Refusal>
-    ensures { MatchResult result (λ _. IsOffered job Done store.old store.new)
-        (λ _. IsUnmerged job store.old store.new) }
-{
-    store.job_merge(job, divisions)
 }
 
 fn write<D: Device>(store: &mut Store<D>, job: u64) -> Result<(), Refusal>

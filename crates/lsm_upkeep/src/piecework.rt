@@ -2,7 +2,6 @@
 
 ghost use Rattle.lsm_upkeep.specs.Steps.{IsUpkept};
 
-use crate::finishing::merge;
 use lsm_codec::Key;
 use lsm_device::Device;
 use lsm_store::{Piece, Store};
@@ -84,7 +83,7 @@ fn build<D: Device>(
         Some(divisions) => divisions,
         None => Vec::new(alloc),
     };
-    let done = merge(store, job, divisions).is_ok();
+    let done = store.job_merge(job, divisions).is_ok();
     end_of(store, job, done, PieceDone::Built)
 }
 

@@ -1,4 +1,4 @@
-use Rattle.std.proofs.Common.{◌≡◌, ℕ, Bool, subst}
+use Rattle.std.proofs.Common.{ℕ, Bool, subst}
 use Rattle.lsm_room.specs.Flushes.{FlushesLeave}
 use Rattle.lsm_upkeep.proofs.RoomLaws.{leave_more}
 use Rattle.lsm_upkeep.proofs.allowing.Grant.covers.Goals as goal
